@@ -1,6 +1,6 @@
 -- What an operation leaves of files in pieces, and what it takes out of them.
-use Rattle.std.proofs.Common.{◌≡◌, ℕ, ◌+◌, ◌<◌, Bool, true, false, List, [], ◌∷◌, ◌++◌, get_or, length, take, ℤ, Err, Ok, Result, refl, sym, ap, ap₂, subst, ◌∙◌, arith}
-use Rattle.std.specs.Prelude.{◌||◌, All, Contains, IfOk, filter, int_lt, not}
+use Rattle.std.proofs.Common.{◌≡◌, ℕ, ◌+◌, ◌<◌, Bool, true, false, List, [], ◌∷◌, ◌++◌, get_or, length, take, ℤ, refl, sym, ap, subst, ◌∙◌, arith}
+use Rattle.std.specs.Prelude.{◌||◌, All, Contains, filter, int_lt, not}
 use Rattle.std.specs.Cmp.{signed_Decides}
 use Rattle.std.specs.List.{list_any}
 use Rattle.std.specs.Ordering.{int_eq}
@@ -116,29 +116,6 @@ kept-by_run op files went has none = kept_all (keeps op) files (Each-from_in (λ
     by_test : (file : Loaded) → In file files → (b : Bool) → keeps op file ≡ b → keeps op file ≡ true
     by_test file held true is = is
     by_test file held false is = absurd (both_ways (list_any shares went) none (lost file held is))
-
--- pieces of which each is kept
-kept-joined : (op : Op) (pieces : List (List Loaded))
-    → Each (λ (piece : List Loaded). filter (keeps op) piece ≡ piece) pieces
-    → filter (keeps op) (joined pieces) ≡ joined pieces
-kept-joined op [] each = refl
-kept-joined op (piece ∷ pieces) each = filter-append (keeps op) piece (joined pieces)
-    ∙ ap₂ (λ (x y : List Loaded). x ++ y) each.0 (kept-joined op pieces each.1)
-
--- pieces are kept where nothing went
-pub kept-none_went : (went : List Loaded) (op : Op) (pieces : List (List Loaded)) → length went ≡ 0
-    → All (HasGone went op) pieces → filter (keeps op) (joined pieces) ≡ joined pieces
-kept-none_went (file ∷ went) op pieces none all = absurd (omega (arith, none))
-kept-none_went [] op pieces none all = kept-joined op pieces
-    (Each-from_in (λ (piece : List Loaded). filter (keeps op) piece ≡ piece) pieces (λ piece here.
-    kept-by_run op piece [] (Each-in (HasGone [] op) piece pieces (each_from_All (HasGone [] op) pieces all) here) refl))
-
--- what is made of pieces has their files
-pub if_ok-joined : {E : Type 0} (made : Result (List (List Loaded)) E) (pieces : List (List Loaded))
-    (files : List Loaded) → IfOk made (λ next. next ≡ pieces) → joined pieces ≡ files
-    → IfOk made (λ next. joined next ≡ files)
-if_ok-joined (Ok next) pieces files is same = ap joined is ∙ same
-if_ok-joined (Err e) pieces files is same = is
 
 -- files of no older run are kept by an expiry
 pub kept-by_cutoff : (files : List Loaded) (cutoff : ℤ) → holds_older files cutoff ≡ false

@@ -21,7 +21,6 @@ mod latest;
 mod named;
 mod page_rows;
 mod pages;
-mod pieces;
 mod roll;
 mod shared;
 mod walk;

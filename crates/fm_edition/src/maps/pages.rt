@@ -1,16 +1,14 @@
 //! The files by an instant, in pages of some days that editions share.
-ghost use Rattle.std.specs.Prelude.{◌≡◌, ◌<◌, ℤ, IfOk, IfSome, IsNone, None, OnOk, Some, length, take};
+ghost use Rattle.std.specs.Prelude.{◌≡◌, ◌<◌, ℤ, IfOk, OnOk, length, take};
 ghost use Rattle.std.specs.BTreeMap as tree;
 ghost use Rattle.std.specs.List.{slice_index_or};
 ghost use Rattle.std.specs.Ordering.{int_cmp};
-ghost use Rattle.fm_list.specs.Change.{HasGone};
-ghost use Rattle.fm_list.specs.Selected as selected;
 ghost use Rattle.fm_list.specs.Selected.{AreOwn};
 ghost use Rattle.fm_edition.specs.Indexes as spec;
 ghost use Rattle.fm_edition.specs.Steps as steps;
 
 use crate::maps::files::Files;
-use crate::maps::roll::Roll;
+use crate::maps::roll::{Roll, roll_after};
 use crate::maps::shared::Shared;
 use fm_base::NoMemory;
 use fm_list::{By, Placed};
@@ -32,41 +30,16 @@ pub(crate) fn page_of(key: i64) -> i64
     key.div_euclid(1_048_576)
 }
 
-// The list of an instant, if there is one.
-fn roll_at(pages: &Pages, key: i64) -> Option<&Roll>
-    ensures found { IfSome result (λ roll. spec.in_page pages.now (spec.page_of key) key ≡ Some roll.now) }
-    ensures none { IsNone result → spec.in_page pages.now (spec.page_of key) key ≡ None }
-{
-    match pages.get(&page_of(key)) {
-        Some(page) => match page.get().get(&key) {
-            Some(roll) => Some(roll.get()),
-            None => None,
-        },
-        None => None,
-    }
-}
-
 // The files by an instant.
 pub(crate) fn files_at(pages: &Pages, key: i64) -> Files<'_>
     ensures { result ≡ spec.or_none (spec.in_page pages.now (spec.page_of key) key) }
 {
-    match roll_at(pages, key) {
-        Some(roll) => roll.all(),
+    match pages.get(&page_of(key)) {
+        Some(page) => match page.get().get(&key) {
+            Some(files) => files.get().all(),
+            None => Files::of(&[]),
+        },
         None => Files::of(&[]),
-    }
-}
-
-// The files by an instant after an operation.
-fn part_at(alloc: Global, pages: &Pages, key: i64, change: &Change<'_>) -> Result<Roll, NoMemory>
-    requires own { AreOwn change.now.by change.now.op.now change.now.own.now }
-    requires gone { HasGone change.now.went.now change.now.op.now
-        (spec.or_none (spec.in_page pages.now (spec.page_of key) key)) }
-    ensures { IfOk result (λ next. next ≡ selected.part_after change.now.by key change.now.op.now
-        (spec.or_none (spec.in_page pages.now (spec.page_of key) key))) }
-{
-    match roll_at(pages, key) {
-        Some(roll) => roll.part_after(alloc, key, change),
-        None => Roll::new(alloc).part_after(alloc, key, change),
     }
 }
 
@@ -146,7 +119,7 @@ fn page_after(
     let mut at = from;
     while at < touched.len() && page_of(touched[at]) == number {
         let key = touched[at];
-        let files = part_at(alloc, pages, key, change)?;
+        let files = roll_after(alloc, key, &files_at(pages, key), change)?;
         set_part(alloc, page, key, files)?;
         at += 1;
     }

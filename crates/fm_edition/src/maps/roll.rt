@@ -5,11 +5,12 @@ ghost use Rattle.fm_model.specs.declared.loaded.Loaded.{Loaded as File};
 ghost use Rattle.fm_model.specs.Collection.{after_op, holds_older};
 ghost use Rattle.fm_list.specs.Change as change;
 ghost use Rattle.fm_list.specs.Change.{HasGone};
+ghost use Rattle.fm_list.specs.Selected as selected;
+ghost use Rattle.fm_list.specs.Selected.{AreOwn};
 ghost use Rattle.fm_edition.specs.Pieces as spec;
 
 use crate::maps::files::{Files, Piece};
 use crate::maps::pages::Change;
-use crate::maps::pieces::Pieces;
 use crate::maps::shared::Shared;
 use fm_base::{List, NoMemory};
 use fm_list::Placed;
@@ -23,7 +24,7 @@ use std::marker::Model;
 /// The files in their order: pieces of them, and the last few. A clause sees the list.
 #[derive(Drop)]
 pub(crate) struct Roll {
-    pieces: Pieces,
+    pieces: List<Piece>,
     last: List<Placed>,
 }
 
@@ -101,40 +102,6 @@ fn kept_pieces(
     Ok(next)
 }
 
-// Whether an operation may take files out of some pieces.
-fn some_may_lose(pieces: &[Piece], went: &[Placed], op: &Op) -> bool
-    requires { All (HasGone went.now op.now) pieces.now }
-    ensures { result ≡ false
-        → filter (change.keeps op.now) (spec.joined pieces.now) ≡ spec.joined pieces.now }
-{
-    if went.is_empty() {
-        return false;
-    }
-    for piece in pieces {
-        if may_lose(piece.get().as_slice(), went, op) {
-            return true;
-        }
-    }
-    false
-}
-
-// What an operation leaves of pieces. They are shared together where none loses a file.
-fn pieces_after(
-    alloc: Global,
-    pieces: &Pieces,
-    went: &[Placed],
-    op: &Op,
-) -> Result<Pieces, NoMemory>
-    requires { All (HasGone went.now op.now) pieces.now }
-    ensures { IfOk result (λ next. spec.joined next ≡ filter (change.keeps op.now) (spec.joined pieces.now)) }
-{
-    let held = pieces.get();
-    if some_may_lose(held, went, op) {
-        return Pieces::of(alloc, kept_pieces(alloc, held, went, op)?);
-    }
-    pieces.share()
-}
-
 // Whether a file of a piece is of a run before the cutoff.
 fn has_older_piece(pieces: &[Piece], cutoff: i64) -> bool
     ensures { result ≡ list_any (λ (piece : Items File). holds_older piece cutoff) pieces.now }
@@ -160,7 +127,7 @@ impl Model for Roll {
 // The list of some pieces and the last files. These become a piece where they are enough.
 fn rolled(
     alloc: Global,
-    pieces: Pieces,
+    mut pieces: List<Piece>,
     last: List<Placed>,
     enough: usize,
 ) -> Result<Roll, NoMemory>
@@ -169,27 +136,48 @@ fn rolled(
     if last.len() < enough {
         return Ok(Roll { pieces, last });
     }
-    let pieces = pieces.with(alloc, last)?;
+    push_piece(alloc, &mut pieces, last)?;
     Ok(Roll {
         pieces,
         last: List::new(alloc),
     })
 }
 
+// The files by an instant after an operation. The pieces are shorter than those of all files, since many lists change.
+pub(crate) fn roll_after(
+    alloc: Global,
+    key: i64,
+    files: &Files<'_>,
+    change: &Change<'_>,
+) -> Result<Roll, NoMemory>
+    requires own { AreOwn change.now.by change.now.op.now change.now.own.now }
+    requires gone { HasGone change.now.went.now change.now.op.now files.now }
+    ensures { IfOk result (λ next. next ≡ selected.part_after change.now.by key change.now.op.now files.now) }
+{
+    let pieces = kept_pieces(alloc, files.pieces, change.went, change.op)?;
+    let last = part_after(
+        alloc,
+        change.by,
+        key,
+        files.last,
+        change.went,
+        change.op,
+        change.own,
+    )?;
+    rolled(alloc, pieces, last, 16)
+}
+
 impl Roll {
     ghost use Rattle.std.specs.Prelude.{◌≡◌, ◌↔◌, [], IfOk, IsTrue};
     ghost use Rattle.fm_model.specs.Collection.{after_op, holds_older};
     ghost use Rattle.fm_list.specs.Change as change;
-    ghost use Rattle.fm_list.specs.Change.{HasGone};
-    ghost use Rattle.fm_list.specs.Selected as selected;
-    ghost use Rattle.fm_list.specs.Selected.{AreOwn};
 
     // No files.
     pub(crate) fn new(alloc: Global) -> Roll
         ensures { result ≡ [] }
     {
         Roll {
-            pieces: Pieces::none(),
+            pieces: List::new(alloc),
             last: List::new(alloc),
         }
     }
@@ -199,33 +187,9 @@ impl Roll {
         requires { went.now ≡ change.gone self.now op.now }
         ensures { IfOk result (λ next. next ≡ after_op self.now op.now) }
     {
-        let pieces = pieces_after(alloc, &self.pieces, went, op)?;
+        let pieces = kept_pieces(alloc, self.pieces.as_slice(), went, op)?;
         let last = files_after(alloc, self.last.as_slice(), went, op)?;
         rolled(alloc, pieces, last, 64)
-    }
-
-    // The files by an instant after an operation. The pieces are shorter than those of all files, since many lists
-    // change.
-    pub(crate) fn part_after(
-        &self,
-        alloc: Global,
-        key: i64,
-        change: &Change<'_>,
-    ) -> Result<Roll, NoMemory>
-        requires own { AreOwn change.now.by change.now.op.now change.now.own.now }
-        requires gone { HasGone change.now.went.now change.now.op.now self.now }
-        ensures { IfOk result (λ next. next ≡ selected.part_after change.now.by key change.now.op.now self.now) }
-    {
-        let Change {
-            by,
-            op,
-            went,
-            own,
-            ..
-        } = *change;
-        let pieces = pieces_after(alloc, &self.pieces, went, op)?;
-        let last = part_after(alloc, by, key, self.last.as_slice(), went, op, own)?;
-        rolled(alloc, pieces, last, 16)
     }
 
     // The files, for a look-up.
@@ -233,7 +197,7 @@ impl Roll {
         ensures { result ≡ self.now }
     {
         Files {
-            pieces: self.pieces.get(),
+            pieces: self.pieces.as_slice(),
             last: self.last.as_slice(),
         }
     }
@@ -249,6 +213,6 @@ impl Roll {
     pub(crate) fn has_older(&self, cutoff: i64) -> bool
         ensures { result ≡ holds_older self.now cutoff }
     {
-        has_older_piece(self.pieces.get(), cutoff) || has_older(self.last.as_slice(), cutoff)
+        has_older_piece(self.pieces.as_slice(), cutoff) || has_older(self.last.as_slice(), cutoff)
     }
 }

@@ -1,10 +1,11 @@
 -- The instants from the index on are set one after the other, and what is set stays so.
-use Rattle.std.proofs.Common.{◌≡◌, ◌≢◌, ◌∙◌, rules, arith, ap, cond, refl, sym, get_or, List, Option, SFits, w64, pos}
+use Rattle.std.proofs.Common.{◌≡◌, ◌≢◌, ◌∙◌, rules, arith, ap, cond, refl, subst, sym, get_or, List, Option, SFits, w64, pos}
 use Rattle.std.specs.BTreeMap.{get}
 use Rattle.std.specs.Ordering.{int_cmp, int_eq}
 use Rattle.std.proofs.lemmas.Int.{ints, to_z-of_z}
 use Rattle.std.proofs.lemmas.List.{get_or_default}
 use Rattle.fm_model.specs.declared.loaded.Loaded.{Loaded}
+use Rattle.fm_list.specs.Change.{HasGone}
 use Rattle.fm_list.specs.Selected.{part_after}
 use Rattle.fm_edition.specs.Indexes.{in_page, or_none, page_of, page_set, some_of}
 use Rattle.fm_edition.proofs.PageLemmas.{page_set-more, page_set-other}
@@ -21,14 +22,15 @@ loop-at-init c =
       others = λ other key apart. refl;
     }
 
-pub part_at-requires-clause-own : goal.part_at-requires-clause-own
-part_at-requires-clause-own c = c.requires.own
+pub roll_after-requires-clause-own : goal.roll_after-requires-clause-own
+roll_after-requires-clause-own c = c.requires.own
 
-pub part_at-requires-clause-gone : goal.part_at-requires-clause-gone
-part_at-requires-clause-gone c =
+pub roll_after-requires-clause-gone : goal.roll_after-requires-clause-gone
+roll_after-requires-clause-gone c =
     let key = get_or c.args.change.now.touched.now c.loop-at.at (pos 0) in
     let a : SFits w64 key = search rules in
-    rw (to_z-of_z w64 key a) (c.requires.gone (page_of key) key)
+    let held = simp to_z-of_z at c.files_at.ensures in
+    subst (HasGone c.args.change.now.went.now c.args.change.now.op.now) (sym held) (c.requires.gone (page_of key) key)
 
 pub loop-at-preserved : goal.loop-at-preserved
 unfolding page_set
@@ -40,6 +42,7 @@ loop-at-preserved c =
     let page : c.page_of.result ≡ page_of at_key = rw same at c.page_of.ensures in
     let own : page_of at_key ≡ c.args.number = sym page ∙ grind (arith, ints, c.if-page_of-number.true) in
     let files = rw same at c.in_ok-files.ensures in
+    let held = rw same at c.files_at.ensures in
     let op = c.args.change.now.op.now in
     let here = in_page c.args.pages.now in
     let part = part_after c.args.change.now.by at_key op in
@@ -54,7 +57,7 @@ loop-at-preserved c =
           c.loop-at.at (pos 0) c.loop-at-test.true own in
           rw number (step
           ∙ ap (λ (o : Option (List Loaded)). cond (int_eq at_key key) o (get int_cmp c.loop-at.page key))
-          (ap some_of (files ∙ ap part (ap (λ n. or_none (here n at_key)) own)))
+          (ap some_of (files ∙ ap part (held ∙ ap (λ n. or_none (here n at_key)) own)))
           ∙ ap (cond (int_eq at_key key) (some_of (part (or_none (here c.args.number at_key))))) before ∙ sym more);
       others = λ other key apart.
           page_set-other c.args.change.now.by c.args.change.now.touched.now op here c.args.number other key c.loop-at.at

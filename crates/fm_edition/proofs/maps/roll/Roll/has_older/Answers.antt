@@ -17,7 +17,7 @@ returns-then-has_older_piece c =
     let last = c.self.inside.last in
     let found = simp to_z-of_z at c.has_older_piece.ensures in
     let first : c.has_older_piece.result ≡ holds_older (joined pieces) cutoff = found
-    ∙ ap (list_any (λ (piece : List Loaded). holds_older piece cutoff)) c.get.ensures
+    ∙ ap (list_any (λ (piece : List Loaded). holds_older piece cutoff)) c.as_slice.ensures
     ∙ older-joined pieces cutoff in
     let is : holds_older (joined pieces) cutoff ≡ true = sym first ∙ c.if-has_older_piece.true in
     c.if-has_older_piece.true ∙ sym (ap (λ (b : Bool). b || holds_older last cutoff) is)
@@ -31,10 +31,10 @@ returns-else-has_older_piece c =
     let last = c.self.inside.last in
     let found = simp to_z-of_z at c.has_older_piece.ensures in
     let first : c.has_older_piece.result ≡ holds_older (joined pieces) cutoff = found
-    ∙ ap (list_any (λ (piece : List Loaded). holds_older piece cutoff)) c.get.ensures
+    ∙ ap (list_any (λ (piece : List Loaded). holds_older piece cutoff)) c.as_slice.ensures
     ∙ older-joined pieces cutoff in
     let is : holds_older (joined pieces) cutoff ≡ false = sym first ∙ c.if-has_older_piece.false in
     let second = simp to_z-of_z at c.has_older.ensures in
-    second ∙ ap (λ l. holds_older l cutoff) c.as_slice.ensures
+    second ∙ ap (λ l. holds_older l cutoff) c.as_slice-else-has_older_piece.ensures
     ∙ sym (ap (λ (b : Bool). b || holds_older last cutoff) is) ∙ sym (older-append (joined pieces) last cutoff)
     ∙ ap (λ l. holds_older l cutoff) c.self.view_is
