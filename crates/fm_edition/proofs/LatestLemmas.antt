@@ -14,7 +14,7 @@ use Rattle.fm_model.specs.Rising.{rising}
 use Rattle.fm_model.specs.Rows.{best_row, row_at}
 use Rattle.fm_model.proofs.InstantLemmas.{rises_runs_of}
 use Rattle.fm_model.proofs.LastLemmas.{last_such-is}
-use Rattle.fm_model.proofs.Members.{Each, Each-weaker, EachPair}
+use Rattle.fm_model.proofs.Members.{All-from_each, Each, Each-weaker, EachPair}
 use Rattle.fm_model.proofs.RisingLemmas.{Above}
 use Rattle.fm_list.specs.declared.by.By.TheVariants.{Run, Time}
 use Rattle.fm_list.specs.Selected.{part, selects, AreSound}
@@ -152,6 +152,15 @@ leads_parts latest first others leads =
       record { held = leads.held; is = leads.is; parts = parts.0 },
       record { held = leads.held; is = leads.is; parts = parts.1 },
     )
+
+-- or to one of them
+pub leads_one : (latest : Latest) (entries : List (ℤ × List Loaded)) (i : ℕ) (d : ℤ × List Loaded)
+    → i < length entries → Leads latest entries → Leads latest (get_or entries i d ∷ [])
+leads_one latest entries i d lt leads = record {
+  held = leads.held;
+  is = leads.is;
+  parts = All-from_each (IsPart leads.held) (get_or entries i d ∷ []) (leads.parts i d lt, tt);
+}
 
 -- a run that went on leads to what it led to
 pub leads_stays : (before after : Latest) (entries : List (ℤ × List Loaded)) → Stays before after
