@@ -1,6 +1,6 @@
 -- Where each valid time is that of one file, the best time series with a least offset has the rows that keep it.
-use Rattle.std.proofs.Common.{◌≡◌, Bool, true, false, List, [], ◌∷◌, Option, Some, None, ℤ, length, inl, inr, refl, sym, ap, ◌∙◌, arith}
-use Rattle.std.specs.Prelude.{filter, option_and_then, Any}
+use Rattle.std.proofs.Common.{◌≡◌, Bool, true, false, List, [], ◌∷◌, Option, Some, None, ℤ, length, inl, inr, map, refl, sym, ap, ap₂, ◌∙◌, arith}
+use Rattle.std.specs.Prelude.{filter, is_some, option_and_then, All, Any}
 use Rattle.std.specs.BTreeMap.{BTreeMap}
 use Rattle.std.specs.List.{filter_map, cons_option}
 use Rattle.std.proofs.Math.Path.{subst₂}
@@ -12,9 +12,13 @@ use Rattle.fm_model.specs.Rows.{best_row, row_at}
 use Rattle.fm_model.proofs.BestLemmas.{IsBest-from_best, offset_test}
 use Rattle.fm_model.proofs.Members.{in_from_Any}
 use Rattle.fm_model.proofs.RowLemmas.{IsBestRow-from_best_row}
-use Rattle.fm_edition.specs.Indexes.{best_of_entry, each_one, is_one, kept_row, page_rows}
-use Rattle.fm_edition.specs.Least.{keeps_least}
+use Rattle.fm_edition.specs.declared.maps.page_rows.Oldest.{Oldest}
+use Rattle.fm_edition.specs.Indexes.{best_of_entry, each_one, is_one, kept_row, oldest_runs, page_rows, with_oldest}
+use Rattle.fm_edition.specs.Indexes.{IsTimed}
+use Rattle.fm_edition.specs.Least.{keeps_least, row_time}
+use Rattle.fm_edition.proofs.EarlyLemmas.{early_row}
 use Rattle.fm_edition.proofs.LeastLemmas.{no_row, same_row}
+use Rattle.fm_edition.proofs.WalkLemmas.{all_first, all_rest}
 
 -- a run that one file has is the file's
 one_run : (file : Loaded) (run valid : ℤ) → Any (HasCell run valid) (file ∷ []) → file.run ≡ run
@@ -76,3 +80,39 @@ rows_alone least (entry ∷ entries) one =
 pub from_alone : (least : Option ℤ) (page : BTreeMap ℤ (List Loaded)) → (page_rows page).alone ≡ true
     → filter (keeps_least least) (page_rows page).rows ≡ filter_map (best_of_entry least) page.entries
 from_alone least page one = rows_alone least page.entries one
+
+-- the row of one file has its run
+time_one : (file : Loaded) (valid : ℤ) (row : Row) → best_row (file ∷ []) None valid ≡ Some row
+    → with_oldest (valid, file ∷ []) ≡ row_time row
+time_one file valid row is =
+    let own = IsBestRow-from_best_row (file ∷ []) None valid row is in
+    let first = IsBest-from_best (file ∷ []) valid None row.run own.best_is in
+    let time : ℤ → ℤ → Oldest = λ v r. record { valid = v; run = r } in
+    ap₂ time (sym own.row_is.valid_is) (one_run file row.run valid first.has)
+
+time_alone : (files : List Loaded) (valid : ℤ) (row : Row) → is_one files ≡ true
+    → best_row files None valid ≡ Some row → with_oldest (valid, files) ≡ row_time row
+time_alone [] valid row one is = absurd (false≢true one)
+time_alone (file ∷ []) valid row one is = time_one file valid row is
+time_alone (file ∷ other ∷ files) valid row one is =
+    absurd (omega (arith, eqb-true (length (file ∷ other ∷ files)) 1 one))
+
+-- one valid time more, which has a row
+times_more : (entry : ℤ × List Loaded) (own : Option Row) (times : List Oldest) (rows : List Row) → IsTimed entry
+    → is_one entry.1 ≡ true → kept_row entry ≡ own → times ≡ map row_time rows
+    → with_oldest entry ∷ times ≡ map row_time (cons_option own rows)
+unfolding has_least_offset
+times_more entry None times rows timed one is more =
+    absurd (true≢false (sym (early_row None entry timed) ∙ ap is_some is))
+times_more entry (Some row) times rows timed one is more =
+    ap₂ (λ (t : Oldest) (l : List Oldest). t ∷ l) (time_alone entry.1 entry.0 row one is) more
+
+-- where each valid time is that of one file, the least run of each is that of its row
+pub times_alone : (entries : List (ℤ × List Loaded)) → All IsTimed entries → each_one entries ≡ true
+    → oldest_runs entries ≡ map row_time (filter_map kept_row entries)
+times_alone [] timed one = refl
+times_alone (entry ∷ entries) timed one =
+    let both = and_parts (is_one entry.1) (each_one entries) one in
+    times_more entry (kept_row entry) (oldest_runs entries) (filter_map kept_row entries)
+    (all_first IsTimed entry entries (entry ∷ entries) refl timed) both.0 refl
+    (times_alone entries (all_rest IsTimed entry entries (entry ∷ entries) refl timed) both.1)

@@ -13,6 +13,7 @@ use Rattle.fm_model.specs.Cell.{has_least_offset}
 use Rattle.fm_model.proofs.Members.{Each, each_from_All, in_from_Contains}
 use Rattle.fm_list.proofs.BestSteps.{some_best}
 use Rattle.fm_list.proofs.OldestRun.{oldest-early}
+use Rattle.fm_edition.specs.declared.maps.page_rows.Oldest.{Oldest}
 use Rattle.fm_edition.specs.Indexes.{best_of_entry, found_in, oldest_run, oldest_runs, with_oldest, Entries, IsTimed}
 use Rattle.fm_edition.specs.Least.{lies_after}
 use Rattle.fm_edition.proofs.CountLemmas.{is_some-best_row}
@@ -63,18 +64,22 @@ same_at [] i d e lt = absurd (omega (arith, lt))
 same_at (x ∷ xs) zero d e lt = refl
 same_at (x ∷ xs) (suc i) d e lt = same_at xs i d e (omega (arith, lt))
 
+-- what stands where there is no valid time
+abbrev pub no_time : Oldest
+no_time = record { valid = pos 0; run = pos 0 }
+
 -- where a valid time and its files stand in their page
-pub time-here : (page : Entries) (oldest : List (ℤ × ℤ)) (i : ℕ) (z : ℤ × ℤ) (d : ℤ × List Loaded)
+pub time-here : (page : Entries) (oldest : List Oldest) (i : ℕ) (z : Oldest) (d : ℤ × List Loaded)
     → IsOrdered int_cmp page → oldest ≡ oldest_runs page.entries → i < length oldest
     → (i < length page.entries) × (get_or oldest i z ≡ with_oldest (get_or page.entries i d))
-    × (((get_or oldest i z).0, found_in page (get_or oldest i z).0) ≡ get_or page.entries i d)
+    × (((get_or oldest i z).valid, found_in page (get_or oldest i z).valid) ≡ get_or page.entries i d)
 time-here page oldest i z d ordered runs lt =
     let entries = page.entries in
     let entry = get_or entries i d in
     let within : i < length entries = omega (arith, lt, ap length runs ∙ length-map entries with_oldest) in
     let own : get_or oldest i z ≡ with_oldest entry =
     ap (λ l. get_or l i z) runs ∙ get_or-map with_oldest entries i d z within in
-    let key : (get_or oldest i z).0 ≡ entry.0 = ap (λ (t : ℤ × ℤ). t.0) own in
+    let key : (get_or oldest i z).valid ≡ entry.0 = ap (λ (t : Oldest). t.valid) own in
     let found : get int_cmp page entry.0 ≡ Some entry.1 = found_entry page entry.0 entry.1 ordered
     (in_from_Contains entry entries (i, within, same_at entries i entry d within)) in
     (within, own, rw (key, found) refl)

@@ -1,8 +1,11 @@
 -- Rows of a list that pass a test, where those that stand together are added at once.
-use Rattle.std.proofs.Common.{◌≡◌, ℕ, ◌+◌, ◌<◌, ◌≤◌, Bool, true, false, List, [], ◌∷◌, ◌++◌, length, get_or, take, drop, refl, sym, ap, ◌∙◌, arith}
+use Rattle.std.proofs.Common.{◌≡◌, ℕ, ◌+◌, ◌<◌, ◌≤◌, Bool, true, false, List, [], ◌∷◌, ◌++◌, length, get_or, map, take, drop, suc, zero, refl, subst, sym, ap, ◌∙◌, arith}
 use Rattle.std.specs.Prelude.{filter}
-use Rattle.std.proofs.lemmas.List.{append-nil, append_assoc, drop_all, drop-append-le, length-take, take_more}
+use Rattle.std.proofs.lemmas.List.{append-nil, append_assoc, drop_all, drop-append-le, length-map, length-take, take_more}
 use Rattle.std.proofs.lemmas.List.Elements.{filter-append}
+use Rattle.fm_model.specs.declared.row.Row.{Row}
+use Rattle.fm_edition.specs.declared.maps.page_rows.Oldest.{Oldest}
+use Rattle.fm_edition.specs.Least.{row_time}
 
 -- one item more
 take_next : {A : Type 0} (list : List A) (at : ℕ) (item : A) → at < length list → item ≡ get_or list at item
@@ -45,3 +48,24 @@ passed_none f made now first list from at item lt is fails added so =
     ∙ ap (λ l. first ++ l)
     (sym (filter_next f list at item lt is ∙ ap (λ l. filter f (take at list) ++ l) nothing
     ∙ append-nil (filter f (take at list))))
+
+-- an item at an index of a list, and what is made of it
+pub record IsAt {A B : Type 0} (make : A → B) (list : List A) (at : ℕ) (made : B) : Type 0 where
+  pub item : A
+  pub is : item ≡ get_or list at item
+  pub makes : make item ≡ made
+
+item_at : {A B : Type 0} (make : A → B) (list : List A) (at : ℕ) (other : B) → at < length list
+    → IsAt make list at (get_or (map make list) at other)
+item_at make [] at other lt = absurd (omega (arith, lt))
+item_at make (item ∷ list) zero other lt = record { item = item; is = refl; makes = refl }
+item_at make (item ∷ list) (suc at) other lt =
+    let rest = item_at make list at other (omega (arith, lt)) in
+    record { item = rest.item; is = rest.is; makes = rest.makes }
+
+-- the row of a valid time, where the times are those of the rows
+pub timed_row : (rows : List Row) (times : List Oldest) (at : ℕ) (other : Oldest) → times ≡ map row_time rows
+    → at < length times → (at < length rows) × IsAt row_time rows at (get_or times at other)
+timed_row rows times at other are lt =
+    let within : at < length rows = omega (arith, lt, ap length are, length-map rows row_time) in
+    (within, subst (λ l. IsAt row_time rows at (get_or l at other)) (sym are) (item_at row_time rows at other within))

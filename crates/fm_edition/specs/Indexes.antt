@@ -19,6 +19,7 @@ use Rattle.fm_list.specs.Code.{code_of}
 use Rattle.fm_list.specs.Found.{oldest_behind}
 use Rattle.fm_list.specs.Selected.{part, part_after, AreSound, HaveTime}
 use Rattle.fm_edition.specs.declared.maps.index.Index.{Index}
+use Rattle.fm_edition.specs.declared.maps.page_rows.Oldest.{Oldest}
 use Rattle.fm_edition.specs.declared.maps.wanted.Wanted.{Wanted}
 use Rattle.fm_edition.specs.declared.maps.wanted.Wanted.TheVariants.{After, At}
 use Rattle.fm_edition.specs.Held.{Held, IsEdition}
@@ -127,11 +128,11 @@ abbrev pub oldest_run : List Loaded → ℤ
 oldest_run files = unwrap_or (oldest_behind None files) (pos 0)
 
 -- a valid time and the least run of its files
-abbrev pub with_oldest : ℤ × List Loaded → ℤ × ℤ
-with_oldest entry = (entry.0, oldest_run entry.1)
+abbrev pub with_oldest : ℤ × List Loaded → Oldest
+with_oldest entry = record { valid = entry.0; run = oldest_run entry.1 }
 
 -- some valid times, each with the least run of its files
-abbrev pub oldest_runs : List (ℤ × List Loaded) → List (ℤ × ℤ)
+abbrev pub oldest_runs : List (ℤ × List Loaded) → List Oldest
 oldest_runs entries = map with_oldest entries
 
 -- what is kept of a page

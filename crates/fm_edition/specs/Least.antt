@@ -2,6 +2,7 @@
 use Rattle.std.specs.Prelude.{◌≡◌, ◌≤ℤ◌, ◌-ℤ◌, All, Bool, List, Option, ℤ, true}
 use Rattle.fm_model.specs.declared.row.Row.{Row}
 use Rattle.fm_model.specs.Cell.{has_least_offset}
+use Rattle.fm_edition.specs.declared.maps.page_rows.Oldest.{Oldest}
 
 -- the valid time of each row lies at least `seconds` seconds after its run
 abbrev pub LieAfter : ℤ → List Row → Type 0
@@ -15,6 +16,10 @@ keeps_least least row = has_least_offset least row.run row.valid
 abbrev pub KeepLeast : Option ℤ → List Row → Type 0
 KeepLeast least rows = All (λ (row : Row). keeps_least least row ≡ true) rows
 
--- whether a valid time lies at least the least offset after a run that stands beside it
-abbrev pub lies_after : Option ℤ → ℤ × ℤ → Bool
-lies_after least time = has_least_offset least time.1 time.0
+-- the valid time of a row, and its run
+abbrev pub row_time : Row → Oldest
+row_time row = record { valid = row.valid; run = row.run }
+
+-- whether a valid time lies at least the least offset after the run beside it
+abbrev pub lies_after : Option ℤ → Oldest → Bool
+lies_after least time = has_least_offset least time.run time.valid

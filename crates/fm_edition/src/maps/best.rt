@@ -7,7 +7,7 @@ ghost use Rattle.fm_edition.specs.Indexes as spec;
 ghost use Rattle.fm_edition.specs.Latest as walk;
 
 use crate::maps::early::{count_early, push_early, push_kept};
-use crate::maps::keeping::{count_keeping, push_keeping};
+use crate::maps::keeping::push_keeping;
 use crate::maps::latest::Latest;
 use crate::maps::page_rows::PageRows;
 use crate::maps::pages::{Page, Pages, page_of};
@@ -26,8 +26,10 @@ fn kept_of(alloc: Global, page: &Page) -> Result<Shared<PageRows>, NoMemory>
     requires { All spec.IsTimed page.now.entries }
     ensures { IfOk result (λ kept. kept ≡ spec.page_rows page.now) }
 {
-    let mut rows = List::new(alloc);
-    let mut oldest = List::new(alloc);
+    let items = Vec::with_capacity(alloc, page.len())?;
+    let mut rows = List { items };
+    let items = Vec::with_capacity(alloc, page.len())?;
+    let mut oldest = List { items };
     push_kept(&mut rows, &mut oldest, page)?;
     let kept = PageRows::new(alloc, rows, oldest, each_one(page))?;
     Shared::new(alloc, kept)
@@ -128,16 +130,13 @@ fn push_from(
     rows.push(Arc::new(alloc, made)?)
 }
 
-// How many rows a page has with a least offset.
+// How many rows a page has with a least offset. No file and no row is looked at.
 fn count_from(kept: &PageRows, least: Option<i64>) -> usize
     ensures { (page : spec.Entries) → kept.now ≡ spec.page_rows page → All spec.IsTimed page.entries
         → result ≡ length (filter_map (spec.best_of_entry least) page.entries) }
 {
     if kept.keeps(least) {
         return kept.len();
-    }
-    if kept.is_alone() {
-        return count_keeping(kept.get(), least);
     }
     count_early(kept.oldest(), least)
 }

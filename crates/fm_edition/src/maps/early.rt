@@ -11,6 +11,7 @@ ghost use Rattle.fm_edition.specs.Least.{lies_after};
 
 use crate::maps::entry::push_best;
 use crate::maps::latest::Latest;
+use crate::maps::page_rows::Oldest;
 use crate::maps::pages::{Page, files_in};
 use fm_base::{List, NoMemory};
 use fm_list::keeps_least_offset;
@@ -19,7 +20,7 @@ use fm_model::Row;
 // Adds the rows of a page, and each of its valid times with the least run of its files.
 pub(crate) fn push_kept(
     rows: &mut List<Row>,
-    oldest: &mut List<(i64, i64)>,
+    oldest: &mut List<Oldest>,
     page: &Page,
 ) -> Result<(), NoMemory>
     requires { All spec.IsTimed page.now.entries }
@@ -29,20 +30,23 @@ pub(crate) fn push_kept(
     for (valid, files) in page {
         let all = files.get().all();
         push_best(rows, &all, *valid, None)?;
-        oldest.push((*valid, all.oldest()))?;
+        oldest.push(Oldest {
+            valid: *valid,
+            run: all.oldest(),
+        })?;
     }
     Ok(())
 }
 
 // Whether a valid time lies at least the least offset after the run beside it.
-fn lies_after(time: &(i64, i64), least: Option<i64>) -> bool
+pub(crate) fn lies_after(time: &Oldest, least: Option<i64>) -> bool
     ensures { result ≡ lies_after least time.now }
 {
-    keeps_least_offset(least, time.1, time.0)
+    keeps_least_offset(least, time.run, time.valid)
 }
 
 // 1 where it does, else 0.
-fn once(time: &(i64, i64), least: Option<i64>) -> usize
+fn once(time: &Oldest, least: Option<i64>) -> usize
     ensures value { result ≡ if lies_after least time.now then 1 else 0 }
     ensures few { result ≤ 1 }
 {
@@ -50,7 +54,7 @@ fn once(time: &(i64, i64), least: Option<i64>) -> usize
 }
 
 // How many valid times have a row with a least offset. No file is looked at.
-pub(crate) fn count_early(oldest: &[(i64, i64)], least: Option<i64>) -> usize
+pub(crate) fn count_early(oldest: &[Oldest], least: Option<i64>) -> usize
     ensures { result ≡ length (filter (lies_after least) oldest.now) }
 {
     let mut count = 0;
@@ -95,20 +99,20 @@ fn push_one(
     rows: &mut List<Row>,
     latest: &mut Latest<'_>,
     page: &Page,
-    time: &(i64, i64),
+    time: &Oldest,
     least: Option<i64>,
 ) -> Result<(), NoMemory>
-    requires timed { spec.IsTimed (time.now.0, spec.found_in page.now time.now.0) }
-    requires oldest { time.now.1 ≡ spec.oldest_run (spec.found_in page.now time.now.0) }
-    requires leads { walk.Leads latest.old ((time.now.0, spec.found_in page.now time.now.0) ∷ []) }
+    requires timed { spec.IsTimed (time.now.valid, spec.found_in page.now time.now.valid) }
+    requires oldest { time.now.run ≡ spec.oldest_run (spec.found_in page.now time.now.valid) }
+    requires leads { walk.Leads latest.old ((time.now.valid, spec.found_in page.now time.now.valid) ∷ []) }
     ensures made { OnOk result (rows.new
-        ≡ rows.old ++ option_to_list (best_row (spec.found_in page.now time.now.0) least time.now.0)) }
+        ≡ rows.old ++ option_to_list (best_row (spec.found_in page.now time.now.valid) least time.now.valid)) }
     ensures stays { walk.Stays latest.old latest.new }
 {
     if !lies_after(time, least) {
         return Ok(());
     }
-    let valid = time.0;
+    let valid = time.valid;
     latest.pass(valid, least);
     push_reached(rows, latest, page, valid, least)
 }
@@ -118,7 +122,7 @@ pub(crate) fn push_early(
     rows: &mut List<Row>,
     latest: &mut Latest<'_>,
     page: &Page,
-    oldest: &[(i64, i64)],
+    oldest: &[Oldest],
     least: Option<i64>,
 ) -> Result<(), NoMemory>
     requires ordered { tree.IsOrdered int_cmp page.now }

@@ -7,13 +7,20 @@ use fm_model::Row;
 use std::alloc::Global;
 use std::marker::Model;
 
+/// A valid time, and the least run of its files.
+#[derive(Clone, Copy)]
+pub(crate) struct Oldest {
+    pub valid: i64,
+    pub run: i64,
+}
+
 /// The rows of a page, the least number of seconds that the valid time of one lies after its run, each valid time of
 /// the page beside the least run of its files, and whether each is that of one file. A clause sees all but the second.
 #[derive(Drop)]
 pub(crate) struct PageRows {
     rows: Arc<List<Row>>,
     least: i128,
-    oldest: List<(i64, i64)>,
+    oldest: List<Oldest>,
     alone: bool,
 }
 
@@ -53,7 +60,7 @@ impl PageRows {
     pub(crate) fn new(
         alloc: Global,
         rows: List<Row>,
-        oldest: List<(i64, i64)>,
+        oldest: List<Oldest>,
         alone: bool,
     ) -> Result<PageRows, NoMemory>
         ensures { IfOk result (λ page. page ≡ record { rows = rows; oldest = oldest; alone = alone }) }
@@ -73,13 +80,6 @@ impl PageRows {
         self.rows.get().len()
     }
 
-    // The rows.
-    pub(crate) fn get(&self) -> &[Row]
-        ensures { result.now ≡ self.now.rows }
-    {
-        self.rows.get().as_slice()
-    }
-
     // Whether each valid time of the page is that of one file.
     pub(crate) fn is_alone(&self) -> bool
         ensures { result ≡ self.now.alone }
@@ -88,7 +88,7 @@ impl PageRows {
     }
 
     // Each valid time of the page, and the least run of its files.
-    pub(crate) fn oldest(&self) -> &[(i64, i64)]
+    pub(crate) fn oldest(&self) -> &[Oldest]
         ensures { result.now ≡ self.now.oldest }
     {
         self.oldest.as_slice()

@@ -7,7 +7,7 @@ use Rattle.fm_model.specs.declared.row.Row.{Row}
 use Rattle.fm_edition.specs.Indexes.{best_of_entry}
 use Rattle.fm_edition.specs.Kept.{KeptRows}
 use Rattle.fm_edition.specs.Least.{keeps_least, KeepLeast}
-use Rattle.fm_edition.proofs.AloneLemmas.{from_alone}
+use Rattle.fm_edition.proofs.AloneLemmas.{from_alone, times_alone}
 use Rattle.fm_edition.proofs.LeastLemmas.{from_kept}
 use Rattle.fm_edition.proofs.maps.best.push_from.Goals as goal
 
@@ -27,6 +27,12 @@ returns-then-is_alone-clause-made c =
     subst (λ (rows : List Row). OnOk c.push_keeping.result (c.push_keeping.new.rows ≡ c.args.rows.now ++ rows))
     (ap (filter (keeps_least c.args.least)) rows_are ∙ from_alone c.args.least c.args.page.now alone)
     c.push_keeping.ensures
+
+pub push_keeping-requires : goal.push_keeping-requires
+push_keeping-requires c =
+    let alone = ap (λ (kept : KeptRows). kept.alone) (sym c.requires.kept) ∙ sym c.is_alone.ensures
+    ∙ c.if-is_alone.true in
+    rw c.requires.kept (times_alone c.args.page.now.entries c.requires.timed alone)
 
 pub push_early-requires-clause-oldest : goal.push_early-requires-clause-oldest
 push_early-requires-clause-oldest c = c.oldest.ensures ∙ ap (λ (kept : KeptRows). kept.oldest) c.requires.kept

@@ -1,9 +1,10 @@
 -- One more valid time is counted or not.
-use Rattle.std.proofs.Common.{length, pos, refl, ap, ◌∙◌, arith}
+use Rattle.std.proofs.Common.{length, refl, ap, ◌∙◌, arith}
 use Rattle.std.specs.Prelude.{filter}
 use Rattle.std.proofs.lemmas.List.{take_all}
 use Rattle.std.proofs.lemmas.List.Filters.{length-filter_more}
 use Rattle.fm_edition.specs.Least.{lies_after}
+use Rattle.fm_edition.proofs.EarlyLemmas.{no_time}
 use Rattle.fm_edition.proofs.maps.early.count_early.Goals as goal
 
 pub loop-time-init : goal.loop-time-init
@@ -15,7 +16,7 @@ overflow_add-count c = omega (arith, c.loop-time.invariant.few, c.loop-time-test
 pub loop-time-preserved : goal.loop-time-preserved
 loop-time-preserved c =
     let so = c.loop-time.invariant in
-    let more = length-filter_more (lies_after c.args.least) c.args.oldest.now c.loop-time.time-index (pos 0, pos 0)
+    let more = length-filter_more (lies_after c.args.least) c.args.oldest.now c.loop-time.time-index no_time
     c.loop-time-test.true in
     record {
       few = omega (arith, so.few, c.once-count.ensures.few);

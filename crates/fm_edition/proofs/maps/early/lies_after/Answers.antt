@@ -5,6 +5,6 @@ use Rattle.fm_edition.proofs.maps.early.lies_after.Goals as goal
 
 pub returns : goal.returns
 returns c =
-    let a : SFits w64 c.args.time.now.0 = search rules in
-    let b : SFits w64 c.args.time.now.1 = search rules in
+    let a : SFits w64 c.args.time.now.valid = search rules in
+    let b : SFits w64 c.args.time.now.run = search rules in
     simp to_z-of_z at c.keeps_least_offset.ensures

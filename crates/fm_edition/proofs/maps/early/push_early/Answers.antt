@@ -4,9 +4,10 @@ use Rattle.std.specs.List.{filter_map}
 use Rattle.std.specs.Option.{option_to_list}
 use Rattle.std.proofs.lemmas.List.{append_assoc, take_all, length-map}
 use Rattle.fm_model.specs.declared.loaded.Loaded.{Loaded}
+use Rattle.fm_edition.specs.declared.maps.page_rows.Oldest.{Oldest}
 use Rattle.fm_edition.specs.Indexes.{best_of_entry, found_in, oldest_run, with_oldest, IsTimed}
 use Rattle.fm_edition.specs.Latest.{Leads}
-use Rattle.fm_edition.proofs.EarlyLemmas.{time-here}
+use Rattle.fm_edition.proofs.EarlyLemmas.{no_time, time-here}
 use Rattle.fm_edition.proofs.LatestLemmas.{leads_stays, leads_one}
 use Rattle.fm_edition.proofs.WalkLemmas.{filter_map-more}
 use Rattle.fm_edition.proofs.maps.early.push_early.Goals as goal
@@ -14,20 +15,20 @@ use Rattle.fm_edition.proofs.maps.early.push_early.Goals as goal
 pub push_one-requires-clause-timed : goal.push_one-requires-clause-timed
 push_one-requires-clause-timed c =
     let d : ℤ × List Loaded = (pos 0, []) in
-    let here = time-here c.args.page.now c.args.oldest.now c.loop-time.time-index (pos 0, pos 0) d
+    let here = time-here c.args.page.now c.args.oldest.now c.loop-time.time-index no_time d
     c.requires.ordered c.requires.oldest c.loop-time-test.true in
     subst IsTimed (sym here.2) (c.requires.timed c.loop-time.time-index d here.0)
 
 pub push_one-requires-clause-oldest : goal.push_one-requires-clause-oldest
 push_one-requires-clause-oldest c =
-    let here = time-here c.args.page.now c.args.oldest.now c.loop-time.time-index (pos 0, pos 0) (pos 0, [])
+    let here = time-here c.args.page.now c.args.oldest.now c.loop-time.time-index no_time (pos 0, [])
     c.requires.ordered c.requires.oldest c.loop-time-test.true in
-    ap (λ (t : ℤ × ℤ). t.1) here.1 ∙ ap (λ (e : ℤ × List Loaded). oldest_run e.1) (sym here.2)
+    ap (λ (t : Oldest). t.run) here.1 ∙ ap (λ (e : ℤ × List Loaded). oldest_run e.1) (sym here.2)
 
 pub push_one-requires-clause-leads : goal.push_one-requires-clause-leads
 push_one-requires-clause-leads c =
     let d : ℤ × List Loaded = (pos 0, []) in
-    let here = time-here c.args.page.now c.args.oldest.now c.loop-time.time-index (pos 0, pos 0) d
+    let here = time-here c.args.page.now c.args.oldest.now c.loop-time.time-index no_time d
     c.requires.ordered c.requires.oldest c.loop-time-test.true in
     subst (λ e. Leads c.loop-time.latest (e ∷ [])) (sym here.2)
     (leads_one c.loop-time.latest c.args.page.now.entries c.loop-time.time-index d here.0 c.loop-time.invariant.leads)
@@ -38,15 +39,15 @@ loop-time-preserved c =
     let entries = c.args.page.now.entries in
     let i = c.loop-time.time-index in
     let d : ℤ × List Loaded = (pos 0, []) in
-    let here = time-here c.args.page.now c.args.oldest.now i (pos 0, pos 0) d
+    let here = time-here c.args.page.now c.args.oldest.now i no_time d
     c.requires.ordered c.requires.oldest c.loop-time-test.true in
-    let time = get_or c.args.oldest.now i (pos 0, pos 0) in
+    let time = get_or c.args.oldest.now i no_time in
     record {
       leads = leads_stays c.loop-time.latest c.push_one.new.latest entries c.push_one.ensures.stays
           c.loop-time.invariant.leads;
       stays = λ held is. c.push_one.ensures.stays held (c.loop-time.invariant.stays held is);
       made = c.in_ok-push_one.ensures.made
-          ∙ ap (λ l. l ++ option_to_list (make (time.0, found_in c.args.page.now time.0)))
+          ∙ ap (λ l. l ++ option_to_list (make (time.valid, found_in c.args.page.now time.valid)))
           c.loop-time.invariant.made
           ∙ ap (λ e. (c.args.rows.now ++ filter_map make (take i entries)) ++ option_to_list (make e)) here.2
           ∙ append_assoc c.args.rows.now (filter_map make (take i entries)) (option_to_list (make (get_or entries i d)))

@@ -10,7 +10,7 @@ use Rattle.fm_edition.proofs.maps.early.push_one.Goals as goal
 
 pub returns-then-not-lies_after-clause-made : goal.returns-then-not-lies_after-clause-made
 returns-then-not-lies_after-clause-made c =
-    let valid = c.args.time.now.0 in
+    let valid = c.args.time.now.valid in
     let files = found_in c.args.page.now valid in
     let late : has_least_offset c.args.least (oldest_run files) valid ≡ false =
     ap (λ run. has_least_offset c.args.least run valid) (sym c.requires.oldest)
@@ -20,12 +20,12 @@ returns-then-not-lies_after-clause-made c =
 
 pub push_reached-requires-clause-timed : goal.push_reached-requires-clause-timed
 push_reached-requires-clause-timed c =
-    let a : SFits w64 c.args.time.now.0 = search rules in
+    let a : SFits w64 c.args.time.now.valid = search rules in
     simp to_z-of_z c.requires.timed
 
 pub push_reached-requires-clause-leads : goal.push_reached-requires-clause-leads
 push_reached-requires-clause-leads c =
-    let valid = c.args.time.now.0 in
+    let valid = c.args.time.now.valid in
     let a : SFits w64 valid = search rules in
     simp to_z-of_z (leads_stays c.args.latest.now c.pass.new.self ((valid, found_in c.args.page.now valid) ∷ [])
     c.pass.ensures.stays c.requires.leads)
@@ -35,5 +35,5 @@ push_reached-requires-clause-stops c = c.pass.ensures.stops
 
 pub returns-clause-made : goal.returns-clause-made
 returns-clause-made c =
-    let a : SFits w64 c.args.time.now.0 = search rules in
+    let a : SFits w64 c.args.time.now.valid = search rules in
     simp to_z-of_z at c.push_reached.ensures
