@@ -10,7 +10,6 @@ use Rattle.std.proofs.lemmas.List.{get_or-map, length-map}
 use Rattle.fm_model.specs.declared.loaded.Loaded.{Loaded}
 use Rattle.fm_model.specs.declared.row.Row.{Row}
 use Rattle.fm_model.specs.Cell.{has_least_offset}
-use Rattle.fm_model.specs.Rows.{best_row}
 use Rattle.fm_model.proofs.Members.{Each, each_from_All, in_from_Contains}
 use Rattle.fm_list.proofs.BestSteps.{some_best}
 use Rattle.fm_list.proofs.OldestRun.{oldest-early}

@@ -1,6 +1,6 @@
 -- The last run that keeps a least offset is the best where it has a valid time.
 use Rattle.std.proofs.Common.{◌≡◌, ℕ, ◌<◌, ◌≤◌, ◌-◌, true, false, List, [], ◌∷◌, ◌++◌, drop, get_or, length, take, Option, Some, None, ℤ, pos, ◌<ℤ◌, refl, sym, ap, subst, ◌∙◌, inl, arith}
-use Rattle.std.specs.Prelude.{◌&&◌, Bool, All, is_some, option_and_then}
+use Rattle.std.specs.Prelude.{◌&&◌, Bool, is_some, option_and_then}
 use Rattle.std.specs.Cmp.{signed_Decides}
 use Rattle.std.specs.Map.{keys_of}
 use Rattle.std.specs.Option.{option_map}
@@ -8,7 +8,6 @@ use Rattle.std.proofs.lemmas.Bool.{false≢true, true≢false}
 use Rattle.std.proofs.lemmas.Int.{ints}
 use Rattle.std.proofs.lemmas.List.{append_assoc, take_all}
 use Rattle.fm_model.specs.declared.loaded.Loaded.{Loaded}
-use Rattle.fm_model.specs.declared.row.Row.{Row}
 use Rattle.fm_model.specs.Cell.{best, cell, has_least_offset, is_usable, runs_of, times_of}
 use Rattle.fm_model.specs.Rising.{rising}
 use Rattle.fm_model.specs.Rows.{best_row, row_at}

@@ -1,12 +1,10 @@
 -- One more page's rows are counted.
-use Rattle.std.proofs.Common.{◌≡◌, ◌+◌, ◌++◌, ◌<◌, ◌^◌, ◌∙◌, ℤ, List, length, ap, arith, subst, sym}
+use Rattle.std.proofs.Common.{◌≡◌, ◌+◌, ◌++◌, ◌<◌, ◌^◌, ◌∙◌, length, arith, subst, sym}
 use Rattle.std.specs.Prelude.{All}
-use Rattle.std.specs.BTreeMap.{BTreeMap}
 use Rattle.std.specs.List.{filter_map}
 use Rattle.std.proofs.lemmas.List.{length-append}
 use Rattle.std.proofs.lemmas.Option.{none-some, same_Some}
 use Rattle.fm_base.proofs.ListLemmas.{length-filter_map}
-use Rattle.fm_model.specs.declared.loaded.Loaded.{Loaded}
 use Rattle.fm_edition.specs.Indexes.{best_of_entry, entries_in, entries_of, page_rows, IsTimed}
 use Rattle.fm_edition.proofs.BestLemmas.{kept_entries, HasKept}
 use Rattle.fm_edition.proofs.CountLemmas.{counted_page}

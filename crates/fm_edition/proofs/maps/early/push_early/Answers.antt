@@ -1,8 +1,8 @@
 -- One more row.
-use Rattle.std.proofs.Common.{◌≡◌, ◌++◌, ◌∷◌, [], ℤ, List, ap, get_or, pos, subst, sym, take, ◌∙◌, arith, length}
+use Rattle.std.proofs.Common.{◌++◌, ◌∷◌, [], ℤ, List, ap, get_or, pos, subst, sym, take, ◌∙◌, arith, length}
 use Rattle.std.specs.List.{filter_map}
 use Rattle.std.specs.Option.{option_to_list}
-use Rattle.std.proofs.lemmas.List.{append_assoc, append-nil, take_all, length-map}
+use Rattle.std.proofs.lemmas.List.{append_assoc, take_all, length-map}
 use Rattle.fm_model.specs.declared.loaded.Loaded.{Loaded}
 use Rattle.fm_edition.specs.Indexes.{best_of_entry, found_in, oldest_run, with_oldest, IsTimed}
 use Rattle.fm_edition.specs.Latest.{Leads}

@@ -1,5 +1,5 @@
 -- There is a row where the valid time lies that far after the least run of its files, and none where it doesn't.
-use Rattle.std.proofs.Common.{◌≡◌, ◌++◌, ◌∷◌, [], false, ap, rules, sym, ◌∙◌, SFits, w64}
+use Rattle.std.proofs.Common.{◌≡◌, ◌∷◌, [], false, ap, rules, sym, ◌∙◌, SFits, w64}
 use Rattle.std.proofs.lemmas.Int.{to_z-of_z}
 use Rattle.std.proofs.lemmas.List.{append-nil}
 use Rattle.fm_model.specs.Cell.{has_least_offset}
