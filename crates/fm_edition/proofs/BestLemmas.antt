@@ -1,7 +1,7 @@
 -- The rows that are kept page by page.
 use Rattle.std.proofs.Common.{◌≡◌, ℕ, zero, suc, ◌+◌, ◌<◌, ◌≤◌, Bool, true, false, cond, List, [], ◌∷◌, length, get_or, take, Some, ℤ, refl, sym, ap, ◌∙◌, arith}
 use Rattle.std.specs.Prelude.{◌||◌, All}
-use Rattle.std.specs.BTreeMap.{BTreeMap, get}
+use Rattle.std.specs.BTreeMap.{BTreeMap, get, values, IsOrdered}
 use Rattle.std.specs.Option.{option_map}
 use Rattle.std.specs.Ordering.{int_cmp, int_eq}
 use Rattle.std.specs.Cmp.{signed_Decides}
@@ -9,7 +9,7 @@ use Rattle.std.proofs.lemmas.Bool.{false≢true}
 use Rattle.std.proofs.lemmas.List.{take_more}
 use Rattle.std.proofs.lemmas.List.Folds.{list_any-append}
 use Rattle.fm_model.specs.declared.loaded.Loaded.{Loaded}
-use Rattle.fm_model.proofs.Members.{All-from_each, Each-from_in, Each-in, In-flat_map, each_from_All}
+use Rattle.fm_model.proofs.Members.{All-from_each, Each-from_in, Each-in, In-flat_map, In-map, each_from_All}
 use Rattle.fm_edition.specs.Indexes.{entries_of, page_of, page_rows, rows_at, touches, AreBest, AreOrdered, IsTimed, Pages, RowPages}
 use Rattle.fm_edition.proofs.EntryLemmas.{entry_found, found_entry}
 
@@ -121,3 +121,15 @@ unfolding rows_at
 kept_entries pages best ordered are = All-from_each (HasKept best) pages.entries
     (Each-from_in (HasKept best) pages.entries (λ page held.
     are.shown page.0 ∙ ap (option_map page_rows) (found_entry pages page.0 page.1 ordered.numbers held)))
+
+-- the instants of a page rise
+abbrev pub HasOrder : ℤ × BTreeMap ℤ (List Loaded) → Type 0
+HasOrder page = IsOrdered int_cmp page.1
+
+-- the instants of each page rise
+pub ordered_entries : (pages : Pages) → AreOrdered pages → All HasOrder pages.entries
+ordered_entries pages ordered = All-from_each HasOrder pages.entries
+    (Each-from_in HasOrder pages.entries (λ page held.
+    Each-in (λ p. IsOrdered int_cmp p) page.1 (values pages)
+    (each_from_All (λ p. IsOrdered int_cmp p) (values pages) ordered.each)
+    (In-map (λ (p : ℤ × BTreeMap ℤ (List Loaded)). p.1) page pages.entries held)))

@@ -1,18 +1,22 @@
 -- The least run of the files of a valid time tells whether it has a row with a least offset.
-use Rattle.std.proofs.Common.{◌≡◌, ◌-◌, Bool, true, false, List, ◌∷◌, drop, get_or, length, take, Option, Some, None, ℤ, pos, refl, sym, ap, ◌∙◌, arith}
-use Rattle.std.specs.Prelude.{All, is_some}
+use Rattle.std.proofs.Common.{◌≡◌, ◌<◌, ℕ, zero, suc, true, false, List, [], ◌∷◌, get_or, length, Option, Some, None, ℤ, pos, refl, sym, ap, ◌∙◌, arith}
+use Rattle.std.specs.Prelude.{All, filter, is_some}
+use Rattle.std.specs.BTreeMap.{get, IsOrdered}
+use Rattle.std.specs.List.{filter_map}
 use Rattle.std.specs.Option.{unwrap_or}
+use Rattle.std.specs.Ordering.{int_cmp}
 use Rattle.std.proofs.lemmas.Bool.{true≢false}
-use Rattle.std.proofs.lemmas.List.{take_all}
+use Rattle.std.proofs.lemmas.List.{get_or-map, length-map}
 use Rattle.fm_model.specs.declared.loaded.Loaded.{Loaded}
 use Rattle.fm_model.specs.declared.row.Row.{Row}
 use Rattle.fm_model.specs.Cell.{has_least_offset}
-use Rattle.fm_model.specs.Rows.{best_row}
+use Rattle.fm_model.proofs.Members.{Each, each_from_All, in_from_Contains}
 use Rattle.fm_list.proofs.BestSteps.{some_best}
 use Rattle.fm_list.proofs.OldestRun.{oldest-early}
-use Rattle.fm_edition.specs.Indexes.{best_of_entry, oldest_run, oldest_runs, IsTimed}
+use Rattle.fm_edition.specs.Indexes.{best_of_entry, found_in, oldest_run, oldest_runs, with_oldest, Entries, IsTimed}
+use Rattle.fm_edition.specs.Least.{lies_after}
 use Rattle.fm_edition.proofs.CountLemmas.{is_some-best_row}
-use Rattle.fm_edition.proofs.WalkLemmas.{all_first}
+use Rattle.fm_edition.proofs.EntryLemmas.{found_entry}
 
 -- there is a row exactly where the least run keeps the least offset
 pub early_row : (least : Option ℤ) (entry : ℤ × List Loaded) → IsTimed entry
@@ -31,25 +35,46 @@ late_row least entry timed late = by_row (best_of_entry least entry) refl
     by_row None is = is
     by_row (Some row) is = absurd (true≢false (sym (ap is_some is) ∙ early_row least entry timed ∙ late))
 
-first_run : (left : List ℤ) (run : ℤ) (rest : List ℤ) → left ≡ run ∷ rest → get_or left 0 (pos 0) ≡ run
-first_run left run rest is = rw is refl
+counted : (least : Option ℤ) (entries : List (ℤ × List Loaded)) → Each IsTimed entries
+    → length (filter (lies_after least) (oldest_runs entries)) ≡ length (filter_map (best_of_entry least) entries)
+counted least [] timed = refl
+counted least (entry ∷ entries) timed =
+    by_row (best_of_entry least entry) refl (early_row least entry timed.0) (counted least entries timed.1)
+  where
+    by_row : (o : Option Row) → best_of_entry least entry ≡ o
+        → is_some (best_of_entry least entry) ≡ lies_after least (with_oldest entry)
+        → length (filter (lies_after least) (oldest_runs entries)) ≡ length (filter_map (best_of_entry least) entries)
+        → length (filter (lies_after least) (oldest_runs (entry ∷ entries)))
+        ≡ length (filter_map (best_of_entry least) (entry ∷ entries))
+    by_row None is early more =
+        let late : lies_after least (with_oldest entry) ≡ false = sym early ∙ ap is_some is in
+        rw (late, is) more
+    by_row (Some row) is early more =
+        let keeps : lies_after least (with_oldest entry) ≡ true = sym early ∙ ap is_some is in
+        rw (keeps, is) (omega (arith, more))
 
-other_runs : (left : List ℤ) (run : ℤ) (rest : List ℤ) → left ≡ run ∷ rest
-    → take (length left - 1) (drop 1 left) ≡ rest
-other_runs left run rest is = rw is (take_all (length (run ∷ rest) - 1) rest (omega arith))
+-- as many valid times lie that far after the least run of their files as have a row
+pub count-early : (least : Option ℤ) (entries : List (ℤ × List Loaded)) → All IsTimed entries
+    → length (filter (lies_after least) (oldest_runs entries)) ≡ length (filter_map (best_of_entry least) entries)
+count-early least entries timed = counted least entries (each_from_All IsTimed entries timed)
 
--- the first of the least runs that are left tells of the first valid time
-pub first_row : (least : Option ℤ) (left : List ℤ) (keeps : Bool) (entry : ℤ × List Loaded)
-    (rest before : List (ℤ × List Loaded)) → before ≡ entry ∷ rest → All IsTimed before → left ≡ oldest_runs before
-    → keeps ≡ has_least_offset least (get_or left 0 (pos 0)) entry.0 → is_some (best_of_entry least entry) ≡ keeps
-first_row least left keeps entry rest before is timed runs tested =
-    early_row least entry (all_first IsTimed entry rest before is timed)
-    ∙ ap (λ run. has_least_offset least run entry.0)
-    (sym (first_run left (oldest_run entry.1) (oldest_runs rest) (runs ∙ ap oldest_runs is)))
-    ∙ sym tested
+same_at : {A : Type 0} (xs : List A) (i : ℕ) (d e : A) → i < length xs → get_or xs i d ≡ get_or xs i e
+same_at [] i d e lt = absurd (omega (arith, lt))
+same_at (x ∷ xs) zero d e lt = refl
+same_at (x ∷ xs) (suc i) d e lt = same_at xs i d e (omega (arith, lt))
 
--- and those behind it of the others
-pub rest_runs : (left : List ℤ) (entry : ℤ × List Loaded) (rest before : List (ℤ × List Loaded))
-    → before ≡ entry ∷ rest → left ≡ oldest_runs before → take (length left - 1) (drop 1 left) ≡ oldest_runs rest
-rest_runs left entry rest before is runs =
-    other_runs left (oldest_run entry.1) (oldest_runs rest) (runs ∙ ap oldest_runs is)
+-- where a valid time and its files stand in their page
+pub time-here : (page : Entries) (oldest : List (ℤ × ℤ)) (i : ℕ) (z : ℤ × ℤ) (d : ℤ × List Loaded)
+    → IsOrdered int_cmp page → oldest ≡ oldest_runs page.entries → i < length oldest
+    → (i < length page.entries) × (get_or oldest i z ≡ with_oldest (get_or page.entries i d))
+    × (((get_or oldest i z).0, found_in page (get_or oldest i z).0) ≡ get_or page.entries i d)
+time-here page oldest i z d ordered runs lt =
+    let entries = page.entries in
+    let entry = get_or entries i d in
+    let within : i < length entries = omega (arith, lt, ap length runs ∙ length-map entries with_oldest) in
+    let own : get_or oldest i z ≡ with_oldest entry =
+    ap (λ l. get_or l i z) runs ∙ get_or-map with_oldest entries i d z within in
+    let key : (get_or oldest i z).0 ≡ entry.0 = ap (λ (t : ℤ × ℤ). t.0) own in
+    let found : get int_cmp page entry.0 ≡ Some entry.1 = found_entry page entry.0 entry.1 ordered
+    (in_from_Contains entry entries (i, within, same_at entries i entry d within)) in
+    (within, own, rw (key, found) refl)

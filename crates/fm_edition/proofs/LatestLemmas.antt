@@ -1,6 +1,6 @@
 -- The last run that keeps a least offset is the best where it has a valid time.
 use Rattle.std.proofs.Common.{◌≡◌, ℕ, ◌<◌, ◌≤◌, ◌-◌, true, false, List, [], ◌∷◌, ◌++◌, drop, get_or, length, take, Option, Some, None, ℤ, pos, ◌<ℤ◌, refl, sym, ap, subst, ◌∙◌, inl, arith}
-use Rattle.std.specs.Prelude.{◌&&◌, Bool, All, is_some, option_and_then}
+use Rattle.std.specs.Prelude.{◌&&◌, Bool, is_some, option_and_then}
 use Rattle.std.specs.Cmp.{signed_Decides}
 use Rattle.std.specs.Map.{keys_of}
 use Rattle.std.specs.Option.{option_map}
@@ -8,13 +8,12 @@ use Rattle.std.proofs.lemmas.Bool.{false≢true, true≢false}
 use Rattle.std.proofs.lemmas.Int.{ints}
 use Rattle.std.proofs.lemmas.List.{append_assoc, take_all}
 use Rattle.fm_model.specs.declared.loaded.Loaded.{Loaded}
-use Rattle.fm_model.specs.declared.row.Row.{Row}
 use Rattle.fm_model.specs.Cell.{best, cell, has_least_offset, is_usable, runs_of, times_of}
 use Rattle.fm_model.specs.Rising.{rising}
 use Rattle.fm_model.specs.Rows.{best_row, row_at}
 use Rattle.fm_model.proofs.InstantLemmas.{rises_runs_of}
 use Rattle.fm_model.proofs.LastLemmas.{last_such-is}
-use Rattle.fm_model.proofs.Members.{Each, Each-weaker, EachPair}
+use Rattle.fm_model.proofs.Members.{All-from_each, Each, Each-weaker, EachPair}
 use Rattle.fm_model.proofs.RisingLemmas.{Above}
 use Rattle.fm_list.specs.declared.by.By.TheVariants.{Run, Time}
 use Rattle.fm_list.specs.Selected.{part, selects, AreSound}
@@ -152,6 +151,15 @@ leads_parts latest first others leads =
       record { held = leads.held; is = leads.is; parts = parts.0 },
       record { held = leads.held; is = leads.is; parts = parts.1 },
     )
+
+-- or to one of them
+pub leads_one : (latest : Latest) (entries : List (ℤ × List Loaded)) (i : ℕ) (d : ℤ × List Loaded)
+    → i < length entries → Leads latest entries → Leads latest (get_or entries i d ∷ [])
+leads_one latest entries i d lt leads = record {
+  held = leads.held;
+  is = leads.is;
+  parts = All-from_each (IsPart leads.held) (get_or entries i d ∷ []) (leads.parts i d lt, tt);
+}
 
 -- a run that went on leads to what it led to
 pub leads_stays : (before after : Latest) (entries : List (ℤ × List Loaded)) → Stays before after

@@ -27,7 +27,8 @@ use Rattle.fm_edition.proofs.RowLemmas.{rows_by_entries}
 use Rattle.fm_edition.proofs.TallyLemmas.{bounds}
 
 -- the files of a run have its cells
-pub cell-part_of_run : (files : List Loaded) (run valid : ℤ) → cell (part Run files run) run valid ≡ cell files run valid
+pub cell-part_of_run : (files : List Loaded) (run valid : ℤ)
+    → cell (part Run files run) run valid ≡ cell files run valid
 unfolding cell part selects has_cell
 cell-part_of_run files run valid = ap (option_map (λ file. (file, index_of_time valid file)))
     (last_such-filter (has_cell run valid) (λ (f : Loaded). int_eq f.run run)

@@ -56,9 +56,17 @@ instants Name files = codes_of files
 unfoldable pub page_of : ℤ → ℤ
 page_of key = int_div_euclid key (pos 1_048_576)
 
+-- the files by each instant of a page
+abbrev pub Entries : Type 0
+Entries = BTreeMap ℤ (List Loaded)
+
 -- pages of files by an instant
 abbrev pub Pages : Type 0
-Pages = BTreeMap ℤ (BTreeMap ℤ (List Loaded))
+Pages = BTreeMap ℤ Entries
+
+-- the files by an instant of a page
+abbrev pub found_in : BTreeMap ℤ (List Loaded) → ℤ → List Loaded
+found_in page key = or_none (get int_cmp page key)
 
 -- what stands at an instant in the page of a number
 abbrev pub in_page : Pages → ℤ → ℤ → Option (List Loaded)
@@ -118,9 +126,13 @@ each_one (entry ∷ entries) = is_one entry.1 && each_one entries
 abbrev pub oldest_run : List Loaded → ℤ
 oldest_run files = unwrap_or (oldest_behind None files) (pos 0)
 
--- the least run of the files of each of some instants
-abbrev pub oldest_runs : List (ℤ × List Loaded) → List ℤ
-oldest_runs entries = map (λ (entry : ℤ × List Loaded). oldest_run entry.1) entries
+-- a valid time and the least run of its files
+abbrev pub with_oldest : ℤ × List Loaded → ℤ × ℤ
+with_oldest entry = (entry.0, oldest_run entry.1)
+
+-- some valid times, each with the least run of its files
+abbrev pub oldest_runs : List (ℤ × List Loaded) → List (ℤ × ℤ)
+oldest_runs entries = map with_oldest entries
 
 -- what is kept of a page
 abbrev pub page_rows : BTreeMap ℤ (List Loaded) → KeptRows

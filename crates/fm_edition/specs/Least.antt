@@ -14,3 +14,7 @@ keeps_least least row = has_least_offset least row.run row.valid
 -- each row keeps the least offset
 abbrev pub KeepLeast : Option ℤ → List Row → Type 0
 KeepLeast least rows = All (λ (row : Row). keeps_least least row ≡ true) rows
+
+-- whether a valid time lies at least the least offset after a run that stands beside it
+abbrev pub lies_after : Option ℤ → ℤ × ℤ → Bool
+lies_after least time = has_least_offset least time.1 time.0

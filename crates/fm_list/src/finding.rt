@@ -45,14 +45,39 @@ pub fn shares_run(files: &[Placed], others: &[Placed]) -> bool
     others.iter().any(|other| has_run(files, other.run()))
 }
 
+// Whether a valid time stands at an index.
+fn stands(times: &[i64], index: usize, valid: i64) -> bool
+    ensures { result ≡ true → slice_get times.now index ≡ Some valid }
+{
+    index < times.len() && times[index] == valid
+}
+
+// Where a valid time stands among times that lie evenly apart.
+fn even_index(times: &[i64], valid: i64) -> usize {
+    let [first, second, ..] = times else {
+        return 0;
+    };
+    match (valid.checked_sub(*first), second.checked_sub(*first)) {
+        (Some(far), Some(gap)) => match far.checked_div(gap) {
+            Some(index) => usize::try_from(index).unwrap_or(0),
+            None => 0,
+        },
+        _ => 0,
+    }
+}
+
 // An index of a valid time among some times: a guess where it stands there, or what a search finds. Where the times
-// don't rise, a search may find none.
+// don't rise, a search may find none. Among times that lie evenly apart none is needed.
 fn searched(times: &[i64], guess: usize, valid: i64) -> Option<usize>
     ensures found { IfSome result (λ index. slice_get times.now index ≡ Some valid) }
     ensures none { IsNone result → Rises times.now → false ≡ list_any (λ time. int_eq time valid) times.now }
 {
-    if guess < times.len() && times[guess] == valid {
+    if stands(times, guess, valid) {
         return Some(guess);
+    }
+    let even = even_index(times, valid);
+    if stands(times, even, valid) {
+        return Some(even);
     }
     match times.binary_search(&valid) {
         Ok(index) => Some(index),

@@ -56,7 +56,7 @@ fn older(before: Option<i64>, run: i64) -> i64
     }
 }
 
-/// The least run of some files and more behind them, where `before` is that of the first. `None` where there is no file.
+/// The least run of some files and more behind them, where `before` is that of the first. `None` where there is none.
 pub fn oldest_behind(before: Option<i64>, files: &[Placed]) -> Option<i64>
     ensures { result ≡ found.oldest_behind before files.now }
 {

@@ -110,6 +110,7 @@ fn push_from(
     least: Option<i64>,
 ) -> Result<(), NoMemory>
     requires kept { kept.now ≡ spec.page_rows page.now }
+    requires ordered { tree.IsOrdered int_cmp page.now }
     requires timed { All spec.IsTimed page.now.entries }
     requires leads { walk.Leads latest.old page.now.entries }
     ensures made { OnOk result (rows.new ≡ rows.old ++ filter_map (spec.best_of_entry least) page.now.entries) }
@@ -121,17 +122,16 @@ fn push_from(
     if kept.is_alone() {
         return push_keeping(rows, kept, least);
     }
-    let mut made = List::new(alloc);
+    let items = Vec::with_capacity(alloc, kept.len())?;
+    let mut made = List { items };
     push_early(&mut made, latest, page, kept.oldest(), least)?;
     rows.push(Arc::new(alloc, made)?)
 }
 
 // How many rows a page has with a least offset.
-fn count_from(kept: &PageRows, page: &Page, least: Option<i64>) -> usize
-    requires count { length page.now.entries < 2 ^ 63 }
-    requires kept { kept.now ≡ spec.page_rows page.now }
-    requires timed { All spec.IsTimed page.now.entries }
-    ensures { result ≡ length (filter_map (spec.best_of_entry least) page.now.entries) }
+fn count_from(kept: &PageRows, least: Option<i64>) -> usize
+    ensures { (page : spec.Entries) → kept.now ≡ spec.page_rows page → All spec.IsTimed page.entries
+        → result ≡ length (filter_map (spec.best_of_entry least) page.entries) }
 {
     if kept.keeps(least) {
         return kept.len();
@@ -139,7 +139,7 @@ fn count_from(kept: &PageRows, page: &Page, least: Option<i64>) -> usize
     if kept.is_alone() {
         return count_keeping(kept.get(), least);
     }
-    count_early(page, kept.oldest(), least)
+    count_early(kept.oldest(), least)
 }
 
 // The rows of all pages, also with a least offset, on a walk from a run. Of a page whose rows keep it none is made or
@@ -202,8 +202,8 @@ pub(crate) fn best_count(pages: &Pages, best: &RowPages, least: Option<i64>) -> 
     ensures { result ≡ length (filter_map (spec.best_of_entry least) (spec.entries_of pages.now)) }
 {
     let mut count = 0;
-    for (number, page) in pages {
-        count += count_from(kept_page(best, number), page.get(), least);
+    for (number, _) in pages {
+        count += count_from(kept_page(best, number), least);
     }
     count
 }

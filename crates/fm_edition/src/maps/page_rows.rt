@@ -7,13 +7,13 @@ use fm_model::Row;
 use std::alloc::Global;
 use std::marker::Model;
 
-/// The rows of a page, the least number of seconds that the valid time of one lies after its run, the least run of the
-/// files of each valid time of the page, and whether each is that of one file. A clause sees all but the second.
+/// The rows of a page, the least number of seconds that the valid time of one lies after its run, each valid time of
+/// the page beside the least run of its files, and whether each is that of one file. A clause sees all but the second.
 #[derive(Drop)]
 pub(crate) struct PageRows {
     rows: Arc<List<Row>>,
     least: i128,
-    oldest: List<i64>,
+    oldest: List<(i64, i64)>,
     alone: bool,
 }
 
@@ -53,7 +53,7 @@ impl PageRows {
     pub(crate) fn new(
         alloc: Global,
         rows: List<Row>,
-        oldest: List<i64>,
+        oldest: List<(i64, i64)>,
         alone: bool,
     ) -> Result<PageRows, NoMemory>
         ensures { IfOk result (λ page. page ≡ record { rows = rows; oldest = oldest; alone = alone }) }
@@ -87,8 +87,8 @@ impl PageRows {
         self.alone
     }
 
-    // The least run of the files of each valid time of the page, in the order of these.
-    pub(crate) fn oldest(&self) -> &[i64]
+    // Each valid time of the page, and the least run of its files.
+    pub(crate) fn oldest(&self) -> &[(i64, i64)]
         ensures { result.now ≡ self.now.oldest }
     {
         self.oldest.as_slice()

@@ -30,15 +30,22 @@ pub(crate) fn page_of(key: i64) -> i64
     key.div_euclid(1_048_576)
 }
 
+// The files by an instant of a page.
+pub(crate) fn files_in(page: &Page, key: i64) -> Files<'_>
+    ensures { result ≡ spec.found_in page.now key }
+{
+    match page.get(&key) {
+        Some(files) => files.get().all(),
+        None => Files::of(&[]),
+    }
+}
+
 // The files by an instant.
 pub(crate) fn files_at(pages: &Pages, key: i64) -> Files<'_>
     ensures { result ≡ spec.or_none (spec.in_page pages.now (spec.page_of key) key) }
 {
     match pages.get(&page_of(key)) {
-        Some(page) => match page.get().get(&key) {
-            Some(files) => files.get().all(),
-            None => Files::of(&[]),
-        },
+        Some(page) => files_in(page.get(), key),
         None => Files::of(&[]),
     }
 }

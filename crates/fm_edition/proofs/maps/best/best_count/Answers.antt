@@ -1,12 +1,10 @@
 -- One more page's rows are counted.
-use Rattle.std.proofs.Common.{◌≡◌, ◌+◌, ◌++◌, ◌<◌, ◌^◌, ◌∙◌, ℤ, List, length, ap, arith, subst, sym}
+use Rattle.std.proofs.Common.{◌≡◌, ◌+◌, ◌++◌, ◌<◌, ◌^◌, ◌∙◌, length, arith, subst, sym}
 use Rattle.std.specs.Prelude.{All}
-use Rattle.std.specs.BTreeMap.{BTreeMap}
 use Rattle.std.specs.List.{filter_map}
 use Rattle.std.proofs.lemmas.List.{length-append}
 use Rattle.std.proofs.lemmas.Option.{none-some, same_Some}
 use Rattle.fm_base.proofs.ListLemmas.{length-filter_map}
-use Rattle.fm_model.specs.declared.loaded.Loaded.{Loaded}
 use Rattle.fm_edition.specs.Indexes.{best_of_entry, entries_in, entries_of, page_rows, IsTimed}
 use Rattle.fm_edition.proofs.BestLemmas.{kept_entries, HasKept}
 use Rattle.fm_edition.proofs.CountLemmas.{counted_page}
@@ -26,29 +24,9 @@ loop-number-init c =
 
 pub kept_page-requires : goal.kept_page-requires
 kept_page-requires c none =
-    let kept = all_first (HasKept c.args.best.now) (c.in-Some.number.now, c.in-Some.page.now) c.next.new.self
+    let kept = all_first (HasKept c.args.best.now) (c.in-Some.number.now, c.in-Some.field-0-1.now) c.next.new.self
     c.loop-number.number-iterator c.in-Some.ensures.steps c.loop-number.invariant.kept in
-    none-some (page_rows c.in-Some.page.now) (sym none ∙ kept)
-
-pub count_from-count-requires-clause-count : goal.count_from-count-requires-clause-count
-count_from-count-requires-clause-count c =
-    let few : length (c.in-Some.page.now.entries ++ entries_in c.next.new.self) < 2 ^ 32 =
-    subst (λ l. length (entries_in l) < 2 ^ 32) c.in-Some.ensures.steps c.loop-number.invariant.few in
-    rw c.get.ensures (omega (arith, few, length-append c.in-Some.page.now.entries (entries_in c.next.new.self)))
-
-pub count_from-count-requires-clause-kept : goal.count_from-count-requires-clause-kept
-count_from-count-requires-clause-kept c =
-    let page = c.in-Some.page.now in
-    let kept = all_first (HasKept c.args.best.now) (c.in-Some.number.now, page) c.next.new.self
-    c.loop-number.number-iterator c.in-Some.ensures.steps c.loop-number.invariant.kept in
-    same_Some c.kept_page.result.now (page_rows page) (sym c.kept_page.ensures ∙ kept)
-    ∙ ap page_rows (sym c.get.ensures)
-
-pub count_from-count-requires-clause-timed : goal.count_from-count-requires-clause-timed
-count_from-count-requires-clause-timed c =
-    let all : All IsTimed (c.in-Some.page.now.entries ++ entries_in c.next.new.self) =
-    subst (λ l. All IsTimed (entries_in l)) c.in-Some.ensures.steps c.loop-number.invariant.timed in
-    rw c.get.ensures (all_parts IsTimed c.in-Some.page.now.entries (entries_in c.next.new.self) all).0
+    none-some (page_rows c.in-Some.field-0-1.now) (sym none ∙ kept)
 
 -- the rows with those of the page, and those of the pages that are left
 next_count : (c : goal.After-count_from-count) → c.loop-number.count + c.count_from-count.result
@@ -56,11 +34,16 @@ next_count : (c : goal.After-count_from-count) → c.loop-number.count + c.count
     ≡ length (filter_map (best_of_entry c.args.least) (entries_of c.args.pages.now))
 next_count c =
     let make = best_of_entry c.args.least in
-    let page = c.in-Some.page.now in
+    let page = c.in-Some.field-0-1.now in
     let rest = entries_in c.next.new.self in
     let whole = length (filter_map make (entries_of c.args.pages.now)) in
-    let own : c.count_from-count.result ≡ length (filter_map make page.entries) = c.count_from-count.ensures
-    ∙ ap (λ (m : BTreeMap ℤ (List Loaded)). length (filter_map make m.entries)) c.get.ensures in
+    let kept = all_first (HasKept c.args.best.now) (c.in-Some.number.now, page) c.next.new.self
+    c.loop-number.number-iterator c.in-Some.ensures.steps c.loop-number.invariant.kept in
+    let all : All IsTimed (page.entries ++ rest) = subst (λ l. All IsTimed (entries_in l)) c.in-Some.ensures.steps
+    c.loop-number.invariant.timed in
+    let own : c.count_from-count.result ≡ length (filter_map make page.entries) = c.count_from-count.ensures page
+    (same_Some c.kept_page.result.now (page_rows page) (sym c.kept_page.ensures ∙ kept))
+    (all_parts IsTimed page.entries rest all).0 in
     let sum : c.loop-number.count + length (filter_map make (page.entries ++ rest)) ≡ whole =
     subst (λ l. c.loop-number.count + length (filter_map make (entries_in l)) ≡ whole) c.in-Some.ensures.steps
     c.loop-number.invariant.counted in
@@ -74,7 +57,7 @@ overflow_add-count c =
 
 pub loop-number-preserved : goal.loop-number-preserved
 loop-number-preserved c =
-    let page = c.in-Some.page.now in
+    let page = c.in-Some.field-0-1.now in
     let few : length (page.entries ++ entries_in c.next.new.self) < 2 ^ 32 =
     subst (λ l. length (entries_in l) < 2 ^ 32) c.in-Some.ensures.steps c.loop-number.invariant.few in
     let all : All IsTimed (page.entries ++ entries_in c.next.new.self) =

@@ -7,7 +7,7 @@ use Rattle.fm_edition.proofs.maps.best.kept_of.Goals as goal
 
 pub returns : goal.returns
 returns c =
-    let kept : List Row → List ℤ → Bool → KeptRows =
+    let kept : List Row → List (ℤ × ℤ) → Bool → KeptRows =
     λ rows oldest alone. record { rows = rows; oldest = oldest; alone = alone } in
     let page = page_rows c.args.page.now in
     let same : kept c.push_kept.new.rows c.push_kept.new.oldest c.each_one.result ≡ page =

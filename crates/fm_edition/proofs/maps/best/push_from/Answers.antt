@@ -33,5 +33,7 @@ push_early-requires-clause-oldest c = c.oldest.ensures ∙ ap (λ (kept : KeptRo
 
 pub returns-clause-made : goal.returns-clause-made
 returns-clause-made c =
+    let own = filter_map (best_of_entry c.args.least) c.args.page.now.entries in
     subst (λ (rows : List Row). OnOk c.push-2.result (c.push-2.new.self ≡ c.args.rows.now ++ rows))
-    (c.in_ok-new.ensures ∙ c.in_ok-push_early.ensures.made ∙ ap (λ l. l ++ filter_map (best_of_entry c.args.least) c.args.page.now.entries) c.new-made.ensures) c.push-2.ensures.ok
+    (c.in_ok-new.ensures ∙ c.in_ok-push_early.ensures.made ∙ ap (λ l. l ++ own) c.in_ok-items.ensures.items)
+    c.push-2.ensures.ok

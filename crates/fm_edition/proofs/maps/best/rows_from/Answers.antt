@@ -5,7 +5,7 @@ use Rattle.std.specs.List.{filter_map}
 use Rattle.std.proofs.lemmas.Option.{none-some, same_Some}
 use Rattle.fm_edition.specs.Indexes.{best_of_entry, entries_in, entries_of, page_rows, IsTimed}
 use Rattle.fm_edition.specs.Latest.{Leads}
-use Rattle.fm_edition.proofs.BestLemmas.{kept_entries, HasKept}
+use Rattle.fm_edition.proofs.BestLemmas.{kept_entries, ordered_entries, HasKept, HasOrder}
 use Rattle.fm_edition.proofs.LatestLemmas.{leads_parts, leads_stays}
 use Rattle.fm_edition.proofs.WalkLemmas.{all_first, all_parts, all_rest, some_taken}
 use Rattle.fm_edition.proofs.maps.best.rows_from.Goals as goal
@@ -16,6 +16,7 @@ loop-number-init c =
     c.into_iter-number-iterator.ensures.into_iter_gives.0 in
     record {
       kept = rw is (kept_entries c.args.pages.now c.args.best.now c.requires.pages c.requires.best);
+      ordered = rw is (ordered_entries c.args.pages.now c.requires.pages);
       leads = rw is c.requires.leads;
       timed = rw is c.requires.timed;
       made = rw (is, c.new-rows.ensures) refl;
@@ -41,6 +42,11 @@ push_from-requires-clause-timed c =
     subst (λ l. All IsTimed (entries_in l)) c.in-Some.ensures.steps c.loop-number.invariant.timed in
     rw c.get.ensures (all_parts IsTimed c.in-Some.page.now.entries (entries_in c.next.new.self) all).0
 
+pub push_from-requires-clause-ordered : goal.push_from-requires-clause-ordered
+push_from-requires-clause-ordered c =
+    rw c.get.ensures (all_first HasOrder (c.in-Some.number.now, c.in-Some.page.now) c.next.new.self
+    c.loop-number.number-iterator c.in-Some.ensures.steps c.loop-number.invariant.ordered)
+
 pub push_from-requires-clause-leads : goal.push_from-requires-clause-leads
 push_from-requires-clause-leads c =
     let page = c.in-Some.page.now.entries in
@@ -64,6 +70,8 @@ loop-number-preserved c =
     record {
       leads = leads_stays c.loop-number.latest c.push_from.new.latest (entries_in c.next.new.self)
           c.push_from.ensures.stays (leads_parts c.loop-number.latest page.entries (entries_in c.next.new.self) led).1;
+      ordered = all_rest HasOrder (c.in-Some.number.now, page) c.next.new.self c.loop-number.number-iterator
+          c.in-Some.ensures.steps c.loop-number.invariant.ordered;
       kept = all_rest (HasKept c.args.best.now) (c.in-Some.number.now, page) c.next.new.self
           c.loop-number.number-iterator c.in-Some.ensures.steps c.loop-number.invariant.kept;
       timed = (all_parts IsTimed page.entries (entries_in c.next.new.self) all).1;

@@ -3,7 +3,7 @@ use Rattle.std.proofs.Common.{◌≡◌, ◌++◌, ℤ, List, rules, ap, sym, su
 use Rattle.std.specs.List.{filter_map}
 use Rattle.std.proofs.lemmas.Int.{to_z-of_z}
 use Rattle.fm_model.specs.declared.loaded.Loaded.{Loaded}
-use Rattle.fm_edition.specs.Indexes.{kept_row, oldest_run, oldest_runs, IsTimed}
+use Rattle.fm_edition.specs.Indexes.{kept_row, oldest_run, oldest_runs, with_oldest, IsTimed}
 use Rattle.fm_edition.proofs.WalkLemmas.{all_first, all_rest, mapped_taken, one_taken}
 use Rattle.fm_edition.proofs.maps.early.push_kept.Goals as goal
 
@@ -37,7 +37,7 @@ loop-valid-preserved c =
           c.next.new.self c.loop-valid.valid-iterator
           (c.args.rows.now ++ filter_map kept_row c.args.page.now.entries) c.in-Some.ensures.steps
           c.loop-valid.invariant.made (ap (λ held. kept_row (c.in-Some.valid.now, held)) files_are));
-      runs = rw (added, run) (mapped_taken (λ e. oldest_run e.1) c.loop-valid.oldest
+      runs = rw (added, run) (mapped_taken with_oldest c.loop-valid.oldest
           (c.args.oldest.now ++ oldest_runs c.args.page.now.entries) entry c.next.new.self
           c.loop-valid.valid-iterator c.in-Some.ensures.steps c.loop-valid.invariant.runs);
     }

@@ -4,7 +4,7 @@ use Rattle.std.specs.Option.{option_to_list}
 use Rattle.std.proofs.lemmas.Int.{to_z-of_z}
 use Rattle.fm_model.specs.declared.loaded.Loaded.{Loaded}
 use Rattle.fm_model.specs.Rows.{best_row}
-use Rattle.fm_edition.specs.Indexes.{IsTimed}
+use Rattle.fm_edition.specs.Indexes.{found_in, IsTimed}
 use Rattle.fm_edition.proofs.LatestLemmas.{row-latest, sound-latest}
 use Rattle.fm_edition.proofs.maps.early.push_reached.Goals as goal
 
@@ -15,14 +15,14 @@ pub push_best-requires : goal.push_best-requires
 push_best-requires c =
     let a : SFits w64 c.args.valid = search rules in
     simp to_z-of_z (subst (λ (files : List Loaded). IsTimed (c.args.valid, files))
-    (sym (c.all.ensures ∙ c.get.ensures)) c.requires.timed)
+    (sym (simp to_z-of_z at c.files_in.ensures)) c.requires.timed)
 
 pub returns : goal.returns
 returns c =
     let a : SFits w64 c.args.valid = search rules in
     let made = simp to_z-of_z at c.push_best.ensures in
     subst (λ (files : List Loaded). OnOk c.push_best.result (c.push_best.new.rows ≡ c.args.rows.now
-    ++ option_to_list (best_row files c.args.least c.args.valid))) (c.all.ensures ∙ c.get.ensures) made
+    ++ option_to_list (best_row files c.args.least c.args.valid))) (simp to_z-of_z at c.files_in.ensures) made
 
 pub returns-in-Some : goal.returns-in-Some
 returns-in-Some c =
@@ -30,7 +30,7 @@ returns-in-Some c =
     let b : SFits w64 c.args.latest.now.run = search rules in
     let keeps = sym (simp to_z-of_z at c.keeps_least_offset.ensures) ∙ c.if-keeps_least_offset.true in
     let there = simp to_z-of_z at c.in-Some.ensures.found in
-    let row = row-latest c.args.latest.now c.args.least (c.args.valid, c.args.files.now)
+    let row = row-latest c.args.latest.now c.args.least (c.args.valid, found_in c.args.page.now c.args.valid)
     (c.in-Some.file.now, c.in-Some.index) c.requires.leads c.requires.stops keeps there in
     let pushed = simp to_z-of_z at c.push.ensures.ok in
     rw (row, ← c.in_ok-share.ensures) pushed
