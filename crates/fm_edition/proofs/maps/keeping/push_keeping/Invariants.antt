@@ -8,7 +8,8 @@ abbrev pub invariant-loop-at : goal.invariant-loop-at
 invariant-loop-at l = record {
   order : l.from ≤ l.at;
   within : l.at ≤ length l.kept.rows;
-  so_far : l.rows ++ drop l.from (take l.at l.kept.rows) ≡ l.fn.rows ++ filter (keeps_least l.least) (take l.at l.kept.rows);
+  so_far : l.rows ++ drop l.from (take l.at l.kept.rows)
+      ≡ l.fn.rows ++ filter (keeps_least l.least) (take l.at l.kept.rows);
 }
 
 abbrev pub decreases-loop-at : goal.decreases-loop-at
