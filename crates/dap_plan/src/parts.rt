@@ -22,11 +22,13 @@ fn ready_len(front: &Bytes) -> u64
     front.items.len() as u64
 }
 
-// Puts bytes before others, which stay where they are in memory if there is room behind them.
+// Puts bytes before others, which stay where they are in memory if there is room behind them. No more room is made than
+// they take.
 fn put_before(head: &[u8], text: &mut Bytes) -> Result<(), NoMemory>
     ensures { OnOk result (text.new ≡ head.now ++ text.old) }
 {
     let len = text.len();
+    text.items.reserve_exact(head.len())?;
     text.append(head)?;
     text.items.rotate_left(len);
     Ok(())

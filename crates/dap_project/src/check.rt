@@ -1,14 +1,15 @@
 //! The first fault of a clause on the dataset, after earlier clauses.
 ghost use Rattle.std.specs.Prelude.{◌≡◌, ◌≤◌, List, All, IfOk, IsTrue, OnOk, length, map};
 ghost use Rattle.dap_model.specs.ClauseFaults as spec;
+ghost use Rattle.dap_model.specs.Picking as picking;
 ghost use Rattle.dap_model.specs.declared.projection.Clause as clauses;
 ghost use Rattle.dap_project.specs.Buckets.{indices_for};
 ghost use Rattle.dap_project.specs.Checks.{Finds, HasCountable, IsCountable};
-ghost use Rattle.dap_project.specs.Notes.{note_of};
+ghost use Rattle.dap_project.specs.Notes.{note_of, picked_of};
 
 use crate::note::{Note, slots_differ};
 use crate::part::picked_dims;
-use crate::picked::{index_named, name_of, picked_by};
+use crate::picked::{Choice, index_named, name_of, picked_by};
 use dap_model::{Clause, Decl, ProjectFault, Slab};
 use fm_base::{Bytes, Fail, List, NoMemory};
 use nc_model::Dim;
@@ -85,17 +86,18 @@ fn check_range(
     Ok(())
 }
 
-// An earlier clause gives other slabs to a part of the declaration.
+// An earlier clause gives other slabs to a part of the declaration, of which this one picks something.
 fn check_conflict(
     alloc: Global,
     decl: &Decl,
     note: &Note,
     clause: &Clause,
+    choice: Choice,
 ) -> Result<(), Fail<ProjectFault>>
+    requires { picked_of choice ≡ picking.picked_by decl.now clause.now.path }
     ensures { (earlier : List clauses.Clause) → note.now ≡ note_of earlier decl.now
         → Finds (spec.conflict_fault decl.now earlier clause.now) result }
 {
-    let choice = picked_by(decl, clause.path.as_slice());
     if slots_differ(decl, clause.slabs.as_slice(), choice, note.slots.as_slice()) {
         let name = Bytes::copy_of(alloc, name_of(decl))?;
         return Err(Fail::Fault(ProjectFault::SlabConflict(name)));
@@ -117,10 +119,11 @@ fn check_decl(
 {
     let path = clause.path.as_slice();
     let slabs = clause.slabs.as_slice();
-    let dims = picked_dims(decl, picked_by(decl, path));
+    let choice = picked_by(decl, path);
+    let dims = picked_dims(decl, choice);
     check_rank(alloc, path, dims, slabs)?;
     check_range(alloc, path, dims, slabs)?;
-    check_conflict(alloc, decl, note, clause)
+    check_conflict(alloc, decl, note, clause, choice)
 }
 
 // The first fault of a clause, which may pick something of the declarations at these indices alone.

@@ -1,5 +1,5 @@
 //! The slabs of one part, as clauses give them.
-ghost use Rattle.std.specs.Prelude.{◌≡◌, IfOk, OnOk};
+ghost use Rattle.std.specs.Prelude.{◌≡◌, OnOk};
 ghost use Rattle.dap_model.specs.Picking.{slabs_for};
 ghost use Rattle.dap_project.specs.Notes as spec;
 
@@ -8,7 +8,6 @@ use crate::slabs::{is_given, slabs_for};
 use dap_model::{Decl, Slab};
 use fm_base::{List, NoMemory};
 use std::alloc::Global;
-use std::mem;
 
 // A part that no clause has named, or the slabs that the first clause gave it, and whether a later one gave it others.
 // No clause is taken that does so on the declaration that it names; but a dataset may have two of one name.
@@ -18,32 +17,8 @@ pub(crate) enum Slot {
     Taken(List<Slab>, bool),
 }
 
-// A slot after a clause that gives its part slabs, or none. Those of a taken slot are compared where they lie.
-fn slot_after(
-    alloc: Global,
-    slot: Slot,
-    decl: &Decl,
-    slabs: &[Slab],
-    part: usize,
-    choice: Choice,
-) -> Result<Slot, NoMemory>
-    ensures { IfOk result (λ next. next
-        ≡ spec.slot_after (slabs_for decl.now slabs.now part (spec.picked_of choice)) slot) }
-{
-    match slot {
-        Slot::Free => match slabs_for(alloc, decl, slabs, part, choice)? {
-            Some(slabs) => Ok(Slot::Taken(slabs, false)),
-            None => Ok(Slot::Free),
-        },
-        Slot::Taken(first, mixed) => match is_given(decl, slabs, part, choice, first.as_slice()) {
-            Some(same) => Ok(Slot::Taken(first, mixed || !same)),
-            None => Ok(Slot::Taken(first, mixed)),
-        },
-    }
-}
-
 impl Slot {
-    // Notes what a clause gives the part.
+    // Notes what a clause gives the part, if anything. The slabs of a taken slot are compared where they lie.
     pub(crate) fn add(
         &mut self,
         alloc: Global,
@@ -55,9 +30,18 @@ impl Slot {
         ensures { OnOk result (self.new
             ≡ spec.slot_after (slabs_for decl.now slabs.now part (spec.picked_of choice)) self.old) }
     {
-        let slot = mem::replace(self, Slot::Free);
-        let next = slot_after(alloc, slot, decl, slabs, part, choice)?;
-        drop(mem::replace(self, next));
+        match self {
+            Slot::Free => {
+                if let Some(first) = slabs_for(alloc, decl, slabs, part, choice)? {
+                    *self = Slot::Taken(first, false);
+                }
+            }
+            Slot::Taken(first, mixed) => {
+                if let Some(same) = is_given(decl, slabs, part, choice, first.as_slice()) {
+                    *mixed = *mixed || !same;
+                }
+            }
+        }
         Ok(())
     }
 }

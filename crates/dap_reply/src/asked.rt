@@ -30,6 +30,9 @@ use web_path::{Service, Target};
 /// The most bytes that a body may have.
 pub const MAX_BODY: u64 = 536_870_912;
 
+// Room behind a structure text for the line that follows it, and for the head of a reply.
+const ROOM_BEHIND: usize = 1_024;
+
 // How many rows a view has, of which there is one.
 #[tactic(auto, unfolding(crate::specs::Body::some_rows))]
 fn count_rows(alloc: Global, edition: &Edition, target: &Target) -> Result<u64, Fail<DapFault>>
@@ -208,6 +211,7 @@ fn front_of(alloc: Global, target: &Target, decls: &List<Decl>) -> Result<Bytes,
     ensures { IfOk result (λ text. text ≡ dds_of target.now.label decls.now ++ codes "Data:\n") }
 {
     let mut text = dds_of(alloc, target, decls)?;
+    text.items.reserve_exact(ROOM_BEHIND)?;
     text.append(b"Data:\n")?;
     Ok(text)
 }

@@ -1,6 +1,6 @@
 -- Slabs differ from earlier ones where the note says so.
 use Rattle.std.proofs.Common.{List, ℕ, Some, ap, ap₂, sym, ◌∙◌}
-use Rattle.dap_model.specs.Picking.{picked_by, slabs_for}
+use Rattle.dap_model.specs.Picking.{slabs_for}
 use Rattle.dap_model.specs.declared.fault.ProjectFault.TheVariants.{SlabConflict}
 use Rattle.dap_model.specs.declared.projection.Slab.{Slab}
 use Rattle.dap_project.specs.Notes.{picked_of, slots_differ}
@@ -11,11 +11,11 @@ use Rattle.dap_project.proofs.check.check_conflict.Goals as goal
 pub returns-then-slots_differ : goal.returns-then-slots_differ
 returns-then-slots_differ c = λ earlier is.
     let decl = c.args.decl.now in
-    let picked = picked_of c.picked_by-choice.result in
+    let picked = picked_of c.args.choice in
     conflict decl earlier c.args.clause.now c.args.note.now picked is
-    (c.picked_by-choice.ensures ∙ ap (picked_by decl) c.as_slice.ensures)
+    c.requires
     (ap₂ (λ (s : List Slab) (l : List Slot). slots_differ (λ part. slabs_for decl s part picked) 0 l)
-    (sym c.as_slice-2.ensures) (sym c.as_slice-3.ensures)
+    (sym c.as_slice.ensures) (sym c.as_slice-2.ensures)
     ∙ sym c.slots_differ.ensures
     ∙ c.if-slots_differ.true)
     ∙ ap (λ (name : List ℕ). Some (SlabConflict name)) (sym (c.in_ok-name.ensures ∙ c.name_of.ensures))
@@ -23,10 +23,10 @@ returns-then-slots_differ c = λ earlier is.
 pub returns : goal.returns
 returns c = λ earlier is.
     let decl = c.args.decl.now in
-    let picked = picked_of c.picked_by-choice.result in
+    let picked = picked_of c.args.choice in
     no_conflict decl earlier c.args.clause.now c.args.note.now picked is
-    (c.picked_by-choice.ensures ∙ ap (picked_by decl) c.as_slice.ensures)
+    c.requires
     (ap₂ (λ (s : List Slab) (l : List Slot). slots_differ (λ part. slabs_for decl s part picked) 0 l)
-    (sym c.as_slice-2.ensures) (sym c.as_slice-3.ensures)
+    (sym c.as_slice.ensures) (sym c.as_slice-2.ensures)
     ∙ sym c.slots_differ.ensures
     ∙ c.if-slots_differ.false)
