@@ -1,17 +1,24 @@
 -- The rows that are kept page by page.
-use Rattle.std.proofs.Common.{◌≡◌, ℕ, zero, suc, ◌+◌, ◌<◌, ◌≤◌, Bool, true, false, cond, List, [], ◌∷◌, length, get_or, take, Some, ℤ, refl, sym, ap, ◌∙◌, arith}
+use Rattle.std.proofs.Common.{◌≡◌, ℕ, zero, suc, ◌+◌, ◌<◌, ◌≤◌, Bool, true, false, cond, List, [], ◌∷◌, length, ◌++◌, drop, get_or, take, Option, Some, None, ℤ, refl, sym, ap, subst, ◌∙◌, arith}
 use Rattle.std.specs.Prelude.{◌||◌, All}
 use Rattle.std.specs.BTreeMap.{BTreeMap, get, values, IsOrdered}
+use Rattle.std.specs.List.{filter_map}
+use Rattle.std.specs.Map.{keys_of}
 use Rattle.std.specs.Option.{option_map}
 use Rattle.std.specs.Ordering.{int_cmp, int_eq}
 use Rattle.std.specs.Cmp.{signed_Decides}
 use Rattle.std.proofs.lemmas.Bool.{false≢true}
 use Rattle.std.proofs.lemmas.List.{take_more}
+use Rattle.std.proofs.lemmas.List.Elements.{filter_map-append}
 use Rattle.std.proofs.lemmas.List.Folds.{list_any-append}
+use Rattle.std.proofs.lemmas.Option.{none-some, same_Some}
 use Rattle.fm_model.specs.declared.loaded.Loaded.{Loaded}
-use Rattle.fm_model.proofs.Members.{All-from_each, Each-from_in, Each-in, In-flat_map, In-map, each_from_All}
-use Rattle.fm_edition.specs.Indexes.{entries_of, page_of, page_rows, rows_at, touches, AreBest, AreOrdered, IsTimed, Pages, RowPages}
+use Rattle.fm_model.proofs.Members.{All-from_each, Contains-from_in, Each, Each-from_in, Each-in, In, In-flat_map, In-map, each_from_All, in_from_Contains, in_map}
+use Rattle.fm_model.proofs.RisingLemmas.{Rises-members}
+use Rattle.fm_edition.specs.Indexes.{entries_in, entries_of, kept_row, kept_rows, page_of, page_rows, rows_at, touches, AreBest, AreOrdered, Entries, IsTimed, Pages, RowPages}
+use Rattle.fm_edition.specs.Kept.{KeptRows}
 use Rattle.fm_edition.proofs.EntryLemmas.{entry_found, found_entry}
+use Rattle.fm_edition.proofs.OrderLemmas.{Rises-from_sorted}
 
 -- one more instant is in the page of a number or not
 pub touches-more : (touched : List ℤ) (i : ℕ) (d number : ℤ) → i < length touched
@@ -133,3 +140,68 @@ ordered_entries pages ordered = All-from_each HasOrder pages.entries
     Each-in (λ p. IsOrdered int_cmp p) page.1 (values pages)
     (each_from_All (λ p. IsOrdered int_cmp p) (values pages) ordered.each)
     (In-map (λ (p : ℤ × BTreeMap ℤ (List Loaded)). p.1) page pages.entries held)))
+
+some_page : (o : Option Entries) (kept : KeptRows) → option_map page_rows o ≡ Some kept
+    → (page : Entries) × (o ≡ Some page)
+some_page None kept e = absurd (none-some kept e)
+some_page (Some page) kept e = (page, refl)
+
+-- what is kept has the numbers of the pages
+same_numbers : (pages : Pages) (best : RowPages) → AreOrdered pages → AreBest pages best
+    → keys_of best.entries ≡ keys_of pages.entries
+unfolding rows_at
+same_numbers pages best ordered are = Rises-members (keys_of best.entries) (keys_of pages.entries)
+    (Rises-from_sorted (keys_of best.entries) are.ordered)
+    (Rises-from_sorted (keys_of pages.entries) ordered.numbers)
+    (λ number. (
+      λ c. Contains-from_in number (keys_of pages.entries)
+          (there number (in_from_Contains number (keys_of best.entries) c)),
+      λ c. Contains-from_in number (keys_of best.entries)
+          (back number (in_from_Contains number (keys_of pages.entries) c)),
+    ))
+  where
+    there : (number : ℤ) → In number (keys_of best.entries) → In number (keys_of pages.entries)
+    there number here =
+        let entry = in_map (λ (e : ℤ × KeptRows). e.0) number best.entries here in
+        let key = entry.0.0 in
+        let page = some_page (get int_cmp pages key) entry.0.1
+        (sym (are.shown key) ∙ found_entry best key entry.0.1 are.ordered entry.1) in
+        subst (λ n. In n (keys_of pages.entries)) entry.2 (In-map (λ (p : ℤ × Entries). p.0) (key, page.0)
+        pages.entries (entry_found pages key page.0 page.1))
+
+    back : (number : ℤ) → In number (keys_of pages.entries) → In number (keys_of best.entries)
+    back number here =
+        let entry = in_map (λ (p : ℤ × Entries). p.0) number pages.entries here in
+        let key = entry.0.0 in
+        let page = entry.0.1 in
+        let kept : get int_cmp best key ≡ Some (page_rows page) =
+        are.shown key ∙ ap (option_map page_rows) (found_entry pages key page ordered.numbers entry.1) in
+        subst (λ n. In n (keys_of best.entries)) entry.2 (In-map (λ (e : ℤ × KeptRows). e.0) (key, page_rows page)
+        best.entries (entry_found best key (page_rows page) kept))
+
+-- an entry is what is found at its number
+abbrev IsFound : RowPages → ℤ × KeptRows → Type 0
+IsFound best kept = get int_cmp best kept.0 ≡ Some kept.1
+
+rows-of_pages : (best : RowPages) (made : List (ℤ × KeptRows)) (pages : List (ℤ × Entries))
+    → keys_of made ≡ keys_of pages → Each (IsFound best) made → Each (HasKept best) pages
+    → kept_rows made ≡ filter_map kept_row (entries_in pages)
+rows-of_pages best [] [] same found kept = refl
+rows-of_pages best [] (page ∷ pages) same found kept = absurd cc
+rows-of_pages best (own ∷ made) [] same found kept = absurd cc
+rows-of_pages best (own ∷ made) (page ∷ pages) same found kept =
+    let number : own.0 ≡ page.0 = ap (λ l. get_or l 0 own.0) same in
+    let others : keys_of made ≡ keys_of pages = ap (drop 1) same in
+    let rows : own.1 ≡ page_rows page.1 = same_Some own.1 (page_rows page.1)
+    (sym found.0 ∙ ap (get int_cmp best) number ∙ kept.0) in
+    ap (λ (k : KeptRows). k.rows ++ kept_rows made) rows
+    ∙ ap (λ l. (page_rows page.1).rows ++ l) (rows-of_pages best made pages others found.1 kept.1)
+    ∙ sym (filter_map-append kept_row page.1.entries (entries_in pages))
+
+-- the rows that are kept of all pages are those of the best time series
+pub kept-from_pages : (pages : Pages) (best : RowPages) → AreOrdered pages → AreBest pages best
+    → kept_rows best.entries ≡ filter_map kept_row (entries_of pages)
+kept-from_pages pages best ordered are = rows-of_pages best best.entries pages.entries
+    (same_numbers pages best ordered are)
+    (Each-from_in (IsFound best) best.entries (λ kept held. found_entry best kept.0 kept.1 are.ordered held))
+    (each_from_All (HasKept best) pages.entries (kept_entries pages best ordered are))

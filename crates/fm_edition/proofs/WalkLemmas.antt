@@ -4,7 +4,7 @@ use Rattle.std.specs.Prelude.{All, map}
 use Rattle.std.specs.List.{filter_map, cons_option}
 use Rattle.std.specs.Map.{keys_of}
 use Rattle.std.specs.Option.{option_to_list}
-use Rattle.std.proofs.lemmas.List.{append_assoc, take_more}
+use Rattle.std.proofs.lemmas.List.{append_assoc, map-append, take_more}
 use Rattle.std.proofs.lemmas.List.Elements.{filter_map-append}
 use Rattle.fm_model.specs.declared.loaded.Loaded.{Loaded}
 use Rattle.fm_model.proofs.Members.{Each, All-from_each, each_from_All}
@@ -30,6 +30,14 @@ pub mapped_taken : {A B : Type 0} (f : A → B) (made whole : List B) (item : A)
     → before ≡ item ∷ rest → made ++ map f before ≡ whole → (made ++ f item ∷ []) ++ map f rest ≡ whole
 mapped_taken f made whole item rest before is sum = append_assoc made (f item ∷ []) (map f rest)
     ∙ ap (λ l. made ++ map f l) (sym is) ∙ sum
+
+-- one more item is made, which gives the next of those that are left
+pub made_taken : {A B : Type 0} (f : A → B) (made : List A) (whole : List B) (item : A) (next : B)
+    (rest before : List B) → before ≡ next ∷ rest → map f made ++ before ≡ whole → f item ≡ next
+    → map f (made ++ item ∷ []) ++ rest ≡ whole
+made_taken f made whole item next rest before is sum gives =
+    ap (λ l. l ++ rest) (map-append f made (item ∷ []) ∙ ap (λ x. map f made ++ x ∷ []) gives)
+    ∙ append_assoc (map f made) (next ∷ []) rest ∙ ap (λ l. map f made ++ l) (sym is) ∙ sum
 
 pub filter_map-more : {A B : Type 0} (make : A → Option B) (items : List A) (i : ℕ) (d : A) → i < length items
     → filter_map make (take (i + 1) items) ≡ filter_map make (take i items) ++ option_to_list (make (get_or items i d))

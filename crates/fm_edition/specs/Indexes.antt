@@ -147,6 +147,10 @@ page_rows page = record {
 abbrev pub RowPages : Type 0
 RowPages = BTreeMap ℤ KeptRows
 
+-- the rows that are kept of some pages, page after page
+abbrev pub kept_rows : List (ℤ × KeptRows) → List Row
+kept_rows pages = flat_map (λ (page : ℤ × KeptRows). page.1.rows) pages
+
 -- what is kept of the page of a number, where there is such a page
 unfoldable pub rows_at : Pages → ℤ → Option KeptRows
 rows_at pages number = option_map page_rows (get int_cmp pages number)

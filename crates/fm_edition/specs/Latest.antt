@@ -1,10 +1,11 @@
 -- The last run that keeps a least offset, on a walk through valid times.
-use Rattle.std.specs.Prelude.{◌≡◌, ◌++◌, All, List, [], ◌∷◌, Option, ℤ, false}
+use Rattle.std.specs.Prelude.{◌≡◌, ◌++◌, All, List, [], ◌∷◌, Option, ℤ, false, map}
 use Rattle.fm_model.specs.declared.loaded.Loaded.{Loaded}
 use Rattle.fm_model.specs.Cell.{has_least_offset, runs_of}
 use Rattle.fm_list.specs.declared.by.By.TheVariants.{Run, Time}
 use Rattle.fm_list.specs.Selected.{part, AreSound}
 use Rattle.fm_edition.specs.declared.maps.latest.Latest.{Latest}
+use Rattle.fm_edition.specs.declared.maps.latest.RunFiles.{RunFiles}
 use Rattle.fm_edition.specs.Indexes.{AreParts, Pages}
 
 -- the first of some runs doesn't keep the least offset, where there is one
@@ -12,17 +13,31 @@ abbrev pub BeginLate : Option ℤ → ℤ → List ℤ → Type 0
 BeginLate least valid [] = Unit {0}
 BeginLate least valid (run ∷ runs) = has_least_offset least run valid ≡ false
 
--- some files have these runs, and the pages have the files of each
-pub record AreRuns (held : List Loaded) (by_run : Pages) (runs : List ℤ) : Type 0 where
-  pub are : runs_of held ≡ runs
-  pub parts : AreParts Run held by_run
+-- a run, and its files
+abbrev pub entry_of : RunFiles → ℤ × List Loaded
+entry_of own = (own.run, own.files.now)
+
+-- the files beside a run are those of some files that are of it
+abbrev pub IsOfRun : List Loaded → RunFiles → Type 0
+IsOfRun held own = part Run held own.run ≡ own.files.now
+
+-- the runs alone
+abbrev pub runs_beside : List RunFiles → List ℤ
+runs_beside runs = map (λ (own : RunFiles). own.run) runs
+
+-- some files have these runs, with the files of each
+pub record AreRuns (held : List Loaded) (runs : List RunFiles) : Type 0 where
+  pub are : runs_of held ≡ runs_beside runs
+  pub own : All (IsOfRun held) runs
   pub sound : AreSound held
 
 -- a run of some files, with its own files, and the later runs
 pub record IsLatest (held : List Loaded) (latest : Latest) : Type 0 where
   pub before : List ℤ
-  pub runs : AreRuns held latest.by_run.now (before ++ latest.run ∷ latest.later.now)
-  pub own : latest.files ≡ part Run held latest.run
+  pub runs : runs_of held ≡ before ++ latest.run ∷ runs_beside latest.later.now
+  pub own : part Run held latest.run ≡ latest.files
+  pub rest : All (IsOfRun held) latest.later.now
+  pub sound : AreSound held
 
 -- what is a run of some files stays one of the same files
 abbrev pub Stays : Latest → Latest → Type 0

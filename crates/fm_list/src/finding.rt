@@ -107,8 +107,9 @@ fn index_of(times: &[i64], guess: usize, rise: bool, valid: i64) -> Option<usize
     walked(times, valid)
 }
 
-// The index of a valid time in a file, where the file is of this run.
-fn index_in(file: &Placed, run: i64, valid: i64) -> Option<u32>
+// The index of a valid time in a file, where the file is of this run. A look begins `near` times behind the index beside
+// the file.
+fn index_in(file: &Placed, run: i64, valid: i64, near: usize) -> Option<u32>
     requires { HasSoundTimes file.now }
     ensures { result ≡ cell_in run valid file.now }
 {
@@ -117,14 +118,16 @@ fn index_in(file: &Placed, run: i64, valid: i64) -> Option<u32>
         return None;
     }
     let times = file.get().times.as_slice();
-    match index_of(times, file.index(), file.times_rise(), valid) {
+    let guess = file.index().saturating_add(near);
+    match index_of(times, guess, file.times_rise(), valid) {
         Some(index) => Some(index as u32),
         None => None,
     }
 }
 
-/// The last file of a run with a valid time, and the time's index in it.
-pub fn cell_of(files: &[Placed], run: i64, valid: i64) -> Option<(&Arc<Loaded>, u32)>
+/// The last file of a run with a valid time, and the time's index in it. A look into a file begins `near` times behind
+/// the index beside it.
+pub fn cell_of(files: &[Placed], run: i64, valid: i64, near: usize) -> Option<(&Arc<Loaded>, u32)>
     requires { AreSound files.now }
     ensures found { IfSome result (λ found. cell files.now run valid ≡ Some (found.0.now, found.1)) }
     ensures none { IsNone result → cell files.now run valid ≡ None }
@@ -133,7 +136,7 @@ pub fn cell_of(files: &[Placed], run: i64, valid: i64) -> Option<(&Arc<Loaded>, 
     while before > 0 {
         before -= 1;
         let file = &files[before];
-        if let Some(index) = index_in(file, run, valid) {
+        if let Some(index) = index_in(file, run, valid, near) {
             return Some((file.owner(), index));
         }
     }

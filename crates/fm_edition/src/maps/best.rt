@@ -12,7 +12,7 @@ use crate::maps::latest::Latest;
 use crate::maps::page_rows::PageRows;
 use crate::maps::pages::{Page, Pages, page_of};
 use crate::maps::shared::Shared;
-use crate::maps::walk::{each_one, keys_of};
+use crate::maps::walk::{each_one, runs_in};
 use fm_base::{Arc, List, NoMemory};
 use fm_rows::Rows;
 use std::alloc::Global;
@@ -170,7 +170,40 @@ fn rows_from(
     Ok(rows)
 }
 
-// The rows of all pages, also with a least offset.
+// The rows that are kept of all pages.
+fn kept_rows(alloc: Global, best: &RowPages) -> Result<Rows, NoMemory>
+    ensures { IfOk result (λ rows. rows ≡ spec.kept_rows best.now.entries) }
+{
+    let mut rows = Rows::new(alloc);
+    for (_, kept) in best {
+        rows.push(kept.get().share()?)?;
+    }
+    Ok(rows)
+}
+
+// The rows of all pages with a least offset.
+fn early_rows(
+    alloc: Global,
+    by_run: &Pages,
+    pages: &Pages,
+    best: &RowPages,
+    least: Option<i64>,
+) -> Result<Rows, NoMemory>
+    requires files { walk.AreOfOne by_run.now pages.now }
+    requires best { spec.AreBest pages.now best.now }
+    ensures { IfOk result (λ rows. rows ≡ filter_map (spec.best_of_entry least) (spec.entries_of pages.now)) }
+{
+    let runs = runs_in(alloc, by_run)?;
+    match runs.as_slice() {
+        [own, later @ ..] => {
+            let mut latest = Latest::first_of(own, later);
+            rows_from(alloc, &mut latest, pages, best, least)
+        }
+        [] => Ok(Rows::new(alloc)),
+    }
+}
+
+// The rows of all pages, also with a least offset. Without one they are those that are kept, and no run is looked up.
 pub(crate) fn best_rows(
     alloc: Global,
     by_run: &Pages,
@@ -182,13 +215,9 @@ pub(crate) fn best_rows(
     requires best { spec.AreBest pages.now best.now }
     ensures { IfOk result (λ rows. rows ≡ filter_map (spec.best_of_entry least) (spec.entries_of pages.now)) }
 {
-    let runs = keys_of(alloc, by_run)?;
-    match runs.as_slice() {
-        [run, later @ ..] => {
-            let mut latest = Latest::first_of(*run, later, by_run);
-            rows_from(alloc, &mut latest, pages, best, least)
-        }
-        [] => Ok(Rows::new(alloc)),
+    match least {
+        None => kept_rows(alloc, best),
+        Some(_) => early_rows(alloc, by_run, pages, best, least),
     }
 }
 

@@ -68,20 +68,21 @@ pub(crate) fn count_early(oldest: &[Oldest], least: Option<i64>) -> usize
 // So the given run is the best where it does and has the valid time; else the files by the valid time are asked.
 fn push_reached(
     rows: &mut List<Row>,
-    latest: &Latest<'_>,
+    latest: &mut Latest<'_>,
     page: &Page,
     valid: i64,
     least: Option<i64>,
 ) -> Result<(), NoMemory>
     requires timed { spec.IsTimed (valid, spec.found_in page.now valid) }
-    requires leads { walk.Leads latest.now ((valid, spec.found_in page.now valid) ∷ []) }
-    requires stops { walk.BeginLate least valid latest.now.later.now }
-    ensures { OnOk result (rows.new
+    requires leads { walk.Leads latest.old ((valid, spec.found_in page.now valid) ∷ []) }
+    requires stops { walk.BeginLate least valid (walk.runs_beside latest.old.later.now) }
+    ensures made { OnOk result (rows.new
         ≡ rows.old ++ option_to_list (best_row (spec.found_in page.now valid) least valid)) }
+    ensures stays { walk.Stays latest.old latest.new }
 {
     let run = latest.run;
     if keeps_least_offset(least, run, valid) {
-        if let Some((file, index)) = latest.files.cell_of(run, valid) {
+        if let Some((file, index)) = latest.cell(valid) {
             return rows.push(Row {
                 valid,
                 run,

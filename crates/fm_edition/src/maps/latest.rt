@@ -1,61 +1,93 @@
 //! The last run that keeps a least offset, on a walk through rising valid times.
-ghost use Rattle.std.specs.Prelude.{◌≡◌, ◌∷◌, ◌++◌, List as Items, ℤ};
+ghost use Rattle.std.specs.Prelude.{◌≤◌, ◌∷◌, List as Items, drop, length};
 ghost use Rattle.fm_model.specs.declared.loaded.Loaded.{Loaded as File};
 ghost use Rattle.fm_edition.specs.Latest as spec;
 
 use crate::maps::files::Files;
-use crate::maps::pages::{Pages, files_at};
+use crate::maps::roll::Roll;
+use fm_base::Arc;
 use fm_list::keeps_least_offset;
+use fm_model::Loaded;
 
-/// A run, its files, and the later runs, with the files by each.
+/// A run, and its files.
+#[derive(Drop)]
+pub(crate) struct RunFiles<'a> {
+    pub run: i64,
+    pub files: &'a Roll,
+}
+
+/// A run, its files, and the later runs. The next time that is asked for may stand at the index `near` in a file of the
+/// run, and the first at `first`. No clause sees the two.
 #[derive(Drop)]
 pub(crate) struct Latest<'a> {
     pub run: i64,
     pub files: Files<'a>,
-    pub later: &'a [i64],
-    pub by_run: &'a Pages,
+    pub later: &'a [RunFiles<'a>],
+    pub first: usize,
+    pub near: usize,
 }
 
-// The last run before the first that doesn't keep the least offset, from a run on, and those after it.
-fn passed(run: i64, later: &[i64], valid: i64, least: Option<i64>) -> (i64, &[i64])
-    ensures split { (before : Items ℤ) × (run ∷ later.now ≡ before ++ result.0 ∷ result.1.now) }
-    ensures stops { spec.BeginLate least valid result.1.now }
+// How many of some rising runs keep the least offset, before the first that doesn't.
+fn passed(runs: &[RunFiles<'_>], valid: i64, least: Option<i64>) -> usize
+    ensures within { result ≤ length runs.now }
+    ensures stops { spec.BeginLate least valid (spec.runs_beside (drop result runs.now)) }
 {
-    let mut own = run;
-    let mut left = later;
-    while let [next, others @ ..] = left {
-        if !keeps_least_offset(least, *next, valid) {
-            return (own, left);
-        }
-        own = *next;
-        left = others;
+    let mut count = 0;
+    while count < runs.len() && keeps_least_offset(least, runs[count].run, valid) {
+        count += 1;
     }
-    (own, left)
+    count
 }
 
 impl<'a> Latest<'a> {
+    ghost use Rattle.std.specs.Prelude.{◌≡◌, IfSome, Some};
+    ghost use Rattle.fm_model.specs.Cell.{cell};
+    ghost use Rattle.fm_list.specs.Selected.{AreSound};
+
     // The first of some runs.
-    pub(crate) fn first_of(run: i64, later: &'a [i64], by_run: &'a Pages) -> Latest<'a>
-        ensures { (held : Items File) → spec.AreRuns held by_run.now (run ∷ later.now) → spec.IsLatest held result }
+    pub(crate) fn first_of(own: &RunFiles<'a>, later: &'a [RunFiles<'a>]) -> Latest<'a>
+        ensures { (held : Items File) → spec.AreRuns held (own.now ∷ later.now) → spec.IsLatest held result }
     {
         Latest {
-            run,
-            files: files_at(by_run, run),
+            run: own.run,
+            files: own.files.all(),
             later,
-            by_run,
+            first: 0,
+            near: 0,
         }
     }
 
     // Goes on to the last run before the first that doesn't keep the least offset.
     pub(crate) fn pass(&mut self, valid: i64, least: Option<i64>)
         ensures stays { spec.Stays self.old self.new }
-        ensures stops { spec.BeginLate least valid self.new.later.now }
+        ensures stops { spec.BeginLate least valid (spec.runs_beside self.new.later.now) }
     {
-        let (run, later) = passed(self.run, self.later, valid, least);
-        self.later = later;
-        if run != self.run {
-            self.run = run;
-            self.files = files_at(self.by_run, run);
+        let later = self.later;
+        let count = passed(later, valid, least);
+        if count > 0 {
+            let own = &later[count - 1];
+            self.run = own.run;
+            self.files = own.files.all();
+            self.later = &later[count..];
+            self.near = self.first;
         }
+    }
+
+    // The last file of the run with a valid time, and the time's index in it.
+    pub(crate) fn cell(&mut self, valid: i64) -> Option<(&'a Arc<Loaded>, u32)>
+        requires { AreSound self.old.files }
+        ensures found { IfSome result (λ found. cell self.old.files self.old.run valid ≡ Some (found.0.now, found.1)) }
+        ensures stays { spec.Stays self.old self.new }
+    {
+        let (file, index) = self.files.cell_near(self.run, valid, self.near)?;
+        let at = index as usize;
+        let first = if self.near == self.first {
+            at
+        } else {
+            self.first
+        };
+        self.first = first;
+        self.near = at.saturating_add(1);
+        Some((file, index))
     }
 }

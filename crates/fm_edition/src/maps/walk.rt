@@ -1,11 +1,13 @@
 //! All instants, and the rows of a view, in one walk through the pages.
-ghost use Rattle.std.specs.Prelude.{◌≡◌, ◌<◌, ◌++◌, ◌^◌, All, IfOk, OnOk, length};
+ghost use Rattle.std.specs.Prelude.{◌≡◌, ◌<◌, ◌++◌, ◌^◌, All, IfOk, OnOk, length, map};
 ghost use Rattle.std.specs.List.{filter_map};
 ghost use Rattle.std.specs.Map.{keys_of as keys_in};
 ghost use Rattle.fm_edition.specs.Indexes as spec;
+ghost use Rattle.fm_edition.specs.Latest.{entry_of};
 
 use crate::maps::entry::{has_wanted, push_wanted};
 use crate::maps::files::Files;
+use crate::maps::latest::RunFiles;
 use crate::maps::pages::{Page, Pages};
 use crate::maps::wanted::Wanted;
 use fm_base::{List, NoMemory};
@@ -32,6 +34,30 @@ pub(crate) fn keys_of(alloc: Global, pages: &Pages) -> Result<List<i64>, NoMemor
         push_keys(&mut keys, page.get())?;
     }
     Ok(keys)
+}
+
+// Adds the runs of a page, with the files of each.
+fn push_runs<'a>(runs: &mut List<RunFiles<'a>>, page: &'a Page) -> Result<(), NoMemory>
+    ensures { OnOk result (map entry_of runs.new ≡ map entry_of runs.old ++ page.now.entries) }
+{
+    for (run, files) in page {
+        runs.push(RunFiles {
+            run: *run,
+            files: files.get(),
+        })?;
+    }
+    Ok(())
+}
+
+// The runs of all pages, with the files of each.
+pub(crate) fn runs_in(alloc: Global, pages: &Pages) -> Result<List<RunFiles<'_>>, NoMemory>
+    ensures { IfOk result (λ runs. map entry_of runs ≡ spec.entries_of pages.now) }
+{
+    let mut runs = List::new(alloc);
+    for (_, page) in pages {
+        push_runs(&mut runs, page.get())?;
+    }
+    Ok(runs)
 }
 
 // Adds the rows of a page.

@@ -14,7 +14,7 @@ use fm_model::{Loaded, Op, Tally};
 use std::alloc::Global;
 
 // The last file of all pieces that is of a run and has a valid time, and the time's index in it.
-fn cell_in(pieces: &[Piece], run: i64, valid: i64) -> Option<(&Arc<Loaded>, u32)>
+fn cell_in(pieces: &[Piece], run: i64, valid: i64, near: usize) -> Option<(&Arc<Loaded>, u32)>
     requires { AreSound (joined pieces.now) }
     ensures found { IfSome result (λ found. cell (joined pieces.now) run valid ≡ Some (found.0.now, found.1)) }
     ensures none { IsNone result → cell (joined pieces.now) run valid ≡ None }
@@ -23,7 +23,7 @@ fn cell_in(pieces: &[Piece], run: i64, valid: i64) -> Option<(&Arc<Loaded>, u32)
     while before > 0 {
         before -= 1;
         let files = pieces[before].get().as_slice();
-        if let Some((file, index)) = cell_of(files, run, valid) {
+        if let Some((file, index)) = cell_of(files, run, valid, near) {
             return Some((file, index));
         }
     }
@@ -57,9 +57,23 @@ impl<'a> Files<'a> {
         ensures found { IfSome result (λ found. cell self.now run valid ≡ Some (found.0.now, found.1)) }
         ensures none { IsNone result → cell self.now run valid ≡ None }
     {
-        match cell_of(self.last, run, valid) {
+        self.cell_near(run, valid, 0)
+    }
+
+    // The same. A look into a file begins `near` times behind the index beside it.
+    pub(crate) fn cell_near(
+        &self,
+        run: i64,
+        valid: i64,
+        near: usize,
+    ) -> Option<(&'a Arc<Loaded>, u32)>
+        requires { spec.AreSound self.now }
+        ensures found { IfSome result (λ found. cell self.now run valid ≡ Some (found.0.now, found.1)) }
+        ensures none { IsNone result → cell self.now run valid ≡ None }
+    {
+        match cell_of(self.last, run, valid, near) {
             Some((file, index)) => Some((file, index)),
-            None => cell_in(self.pieces, run, valid),
+            None => cell_in(self.pieces, run, valid, near),
         }
     }
 

@@ -36,4 +36,7 @@ push_reached-requires-clause-stops c = c.pass.ensures.stops
 pub returns-clause-made : goal.returns-clause-made
 returns-clause-made c =
     let a : SFits w64 c.args.time.now.valid = search rules in
-    simp to_z-of_z at c.push_reached.ensures
+    simp to_z-of_z at c.push_reached.ensures.made
+
+pub returns-clause-stays : goal.returns-clause-stays
+returns-clause-stays c = λ held is. c.push_reached.ensures.stays held (c.pass.ensures.stays held is)

@@ -8,8 +8,8 @@ use Rattle.fm_edition.specs.Indexes.{found_in, IsTimed}
 use Rattle.fm_edition.proofs.LatestLemmas.{row-latest, sound-latest}
 use Rattle.fm_edition.proofs.maps.early.push_reached.Goals as goal
 
-pub cell_of-requires : goal.cell_of-requires
-cell_of-requires c = sound-latest c.requires.leads.held c.args.latest.now c.requires.leads.is
+pub cell-requires : goal.cell-requires
+cell-requires c = sound-latest c.requires.leads.held c.args.latest.now c.requires.leads.is
 
 pub push_best-requires : goal.push_best-requires
 push_best-requires c =
@@ -17,15 +17,15 @@ push_best-requires c =
     simp to_z-of_z (subst (λ (files : List Loaded). IsTimed (c.args.valid, files))
     (sym (simp to_z-of_z at c.files_in.ensures)) c.requires.timed)
 
-pub returns : goal.returns
-returns c =
+pub returns-clause-made : goal.returns-clause-made
+returns-clause-made c =
     let a : SFits w64 c.args.valid = search rules in
     let made = simp to_z-of_z at c.push_best.ensures in
     subst (λ (files : List Loaded). OnOk c.push_best.result (c.push_best.new.rows ≡ c.args.rows.now
     ++ option_to_list (best_row files c.args.least c.args.valid))) (simp to_z-of_z at c.files_in.ensures) made
 
-pub returns-in-Some : goal.returns-in-Some
-returns-in-Some c =
+pub returns-in-Some-clause-made : goal.returns-in-Some-clause-made
+returns-in-Some-clause-made c =
     let a : SFits w64 c.args.valid = search rules in
     let b : SFits w64 c.args.latest.now.run = search rules in
     let keeps = sym (simp to_z-of_z at c.keeps_least_offset.ensures) ∙ c.if-keeps_least_offset.true in

@@ -1,10 +1,9 @@
--- The run and those that are left end the runs from the first on.
-use Rattle.std.proofs.Common.{◌∷◌, length}
-use Rattle.fm_edition.proofs.LatestLemmas.{EndsIn}
+-- The index of a run, or the end.
+use Rattle.std.proofs.Common.{◌≤◌, ◌-◌, length}
 use Rattle.fm_edition.proofs.maps.latest.passed.Given as goal
 
-abbrev pub invariant-loop-left : goal.invariant-loop-left
-invariant-loop-left l = EndsIn (l.run ∷ l.later) l.own l.left
+abbrev pub invariant-loop-count : goal.invariant-loop-count
+invariant-loop-count l = l.count ≤ length l.runs
 
-abbrev pub decreases-loop-left : goal.decreases-loop-left
-decreases-loop-left l = length l.left
+abbrev pub decreases-loop-count : goal.decreases-loop-count
+decreases-loop-count l = length l.runs - l.count

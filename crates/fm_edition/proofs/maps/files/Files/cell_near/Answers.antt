@@ -7,7 +7,7 @@ use Rattle.fm_list.specs.Selected.{AreSound, HasSoundTimes}
 use Rattle.fm_edition.specs.Pieces.{joined}
 use Rattle.fm_edition.proofs.FoundLemmas.{found_behind, passed_behind, FindsLast-cell}
 use Rattle.fm_edition.proofs.PieceLemmas.{all_first, all_last}
-use Rattle.fm_edition.proofs.maps.files.Files.cell_of.Goals as goal
+use Rattle.fm_edition.proofs.maps.files.Files.cell_near.Goals as goal
 
 pub cell_of-requires : goal.cell_of-requires
 cell_of-requires c =
