@@ -47,6 +47,7 @@ Stays before after = (held : List Loaded) → IsLatest held before → IsLatest 
 abbrev pub IsPart : List Loaded → ℤ × List Loaded → Type 0
 IsPart held entry = part Time held entry.0 ≡ entry.1
 
+-- a walk leads to the rows of some valid times: its run, and the files by each of these times, are of the same files
 pub record Leads (latest : Latest) (entries : List (ℤ × List Loaded)) : Type 0 where
   pub held : List Loaded
   pub is : IsLatest held latest
