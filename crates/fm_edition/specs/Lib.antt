@@ -6,6 +6,7 @@ pub mod Kept
 pub mod Latest
 pub mod Least
 pub mod Log
+pub mod Page
 pub mod Pieces
 pub mod Steps
 pub use Rattle.fm_model.specs.Collection

@@ -19,6 +19,7 @@ mod index;
 mod keeping;
 mod latest;
 mod named;
+mod page;
 mod page_rows;
 mod pages;
 mod roll;

@@ -8,6 +8,14 @@ use crate::maps::files::Files;
 use fm_base::{List, NoMemory};
 use fm_model::Row;
 
+// The index behind that of the last row, where the next time of its file stands.
+fn next_index(rows: &List<Row>) -> usize {
+    match rows.as_slice() {
+        [.., row] => (row.index as usize).saturating_add(1),
+        [] => 0,
+    }
+}
+
 // Adds the row of a run and a valid time, where there is a run and they have a cell.
 #[tactic(auto, unfolding(fm_model::specs::Rows::row_at))]
 pub(crate) fn push_row(
@@ -23,7 +31,7 @@ pub(crate) fn push_row(
     let Some(run) = run else {
         return Ok(());
     };
-    match files.cell_of(run, valid) {
+    match files.cell_near(run, valid, next_index(rows)) {
         Some((file, index)) => rows.push(Row {
             valid,
             run,

@@ -71,7 +71,7 @@ pub fn changed(mut gone: List<Placed>, op: &Op) -> Result<List<Placed>, NoMemory
     ensures { IfOk result (λ changed. changed ≡ gone ++ spec.added op.now) }
 {
     if let Op::Put(file) = op {
-        gone.push(Placed::new(file.share()?, 0))?;
+        gone.push(Placed::new(file.share()?))?;
     }
     Ok(gone)
 }

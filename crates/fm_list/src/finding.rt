@@ -45,6 +45,17 @@ pub fn shares_run(files: &[Placed], others: &[Placed]) -> bool
     others.iter().any(|other| has_run(files, other.run()))
 }
 
+/// Whether an instant is one of some rising ones.
+pub fn is_among(instants: &[i64], instant: i64) -> bool
+    requires { Rises instants.now }
+    ensures { result ≡ list_any (λ other. int_eq other instant) instants.now }
+{
+    match instants.binary_search(&instant) {
+        Ok(_) => true,
+        Err(_) => false,
+    }
+}
+
 // Whether a valid time stands at an index.
 fn stands(times: &[i64], index: usize, valid: i64) -> bool
     ensures { result ≡ true → slice_get times.now index ≡ Some valid }
@@ -107,8 +118,7 @@ fn index_of(times: &[i64], guess: usize, rise: bool, valid: i64) -> Option<usize
     walked(times, valid)
 }
 
-// The index of a valid time in a file, where the file is of this run. A look begins `near` times behind the index beside
-// the file.
+// The index of a valid time in a file, where the file is of this run. A look begins at the index `near`.
 fn index_in(file: &Placed, run: i64, valid: i64, near: usize) -> Option<u32>
     requires { HasSoundTimes file.now }
     ensures { result ≡ cell_in run valid file.now }
@@ -118,15 +128,13 @@ fn index_in(file: &Placed, run: i64, valid: i64, near: usize) -> Option<u32>
         return None;
     }
     let times = file.get().times.as_slice();
-    let guess = file.index().saturating_add(near);
-    match index_of(times, guess, file.times_rise(), valid) {
+    match index_of(times, near, file.times_rise(), valid) {
         Some(index) => Some(index as u32),
         None => None,
     }
 }
 
-/// The last file of a run with a valid time, and the time's index in it. A look into a file begins `near` times behind
-/// the index beside it.
+/// The last file of a run with a valid time, and the time's index in it. A look into a file begins at the index `near`.
 pub fn cell_of(files: &[Placed], run: i64, valid: i64, near: usize) -> Option<(&Arc<Loaded>, u32)>
     requires { AreSound files.now }
     ensures found { IfSome result (λ found. cell files.now run valid ≡ Some (found.0.now, found.1)) }

@@ -1,17 +1,15 @@
-//! A file beside its run, and beside the index of one of its times, so that a look-up finds them where it looks.
+//! A file beside its run, so that a look-up finds it where it looks.
 
 use crate::times::rise;
 use fm_base::{Arc, NoMemory};
 use fm_model::Loaded;
 use std::marker::Model;
 
-/// A file, its run, where a time may stand among its times, and whether it was seen that these rise. A clause sees the
-/// file alone.
+/// A file, its run, and whether its times rise. A clause sees the file alone.
 #[derive(Drop)]
 pub struct Placed {
     file: Arc<Loaded>,
     run: i64,
-    index: u32,
     rises: bool,
 }
 
@@ -31,28 +29,14 @@ impl Placed {
     ghost use Rattle.std.specs.Prelude.{◌≡◌, IfOk, true};
     ghost use Rattle.fm_model.specs.Rising.{Rises};
 
-    /// A file, and where a time may stand. It isn't looked whether its times rise.
-    pub fn new(file: Arc<Loaded>, index: usize) -> Placed
-        ensures { result ≡ file }
-    {
-        let run = file.get().run;
-        Placed {
-            file,
-            run,
-            index: u32::try_from(index).unwrap_or(u32::MAX),
-            rises: false,
-        }
-    }
-
-    // A file of its run, whose times are looked through once.
-    pub(crate) fn of_run(file: Arc<Loaded>) -> Placed
+    /// A file, whose times are looked through once.
+    pub fn new(file: Arc<Loaded>) -> Placed
         ensures { result ≡ file }
     {
         let Loaded { run, times, .. } = file.get();
         let rises = rise(times.as_slice());
         Placed {
             run: *run,
-            index: 0,
             rises,
             file,
         }
@@ -77,12 +61,7 @@ impl Placed {
         self.run
     }
 
-    // Where a time may stand. Whoever asks looks whether it does.
-    pub(crate) fn index(&self) -> usize {
-        self.index as usize
-    }
-
-    // Whether it was seen that its times rise.
+    // Whether its times rise.
     pub(crate) fn times_rise(&self) -> bool
         ensures { result ≡ true → Rises self.now.times }
     {
@@ -97,7 +76,6 @@ impl Placed {
         Ok(Placed {
             file,
             run: self.run,
-            index: self.index,
             rises: self.rises,
         })
     }

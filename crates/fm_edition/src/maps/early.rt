@@ -11,8 +11,8 @@ ghost use Rattle.fm_edition.specs.Least.{lies_after};
 
 use crate::maps::entry::push_best;
 use crate::maps::latest::Latest;
+use crate::maps::page::Page;
 use crate::maps::page_rows::Oldest;
-use crate::maps::pages::{Page, files_in};
 use fm_base::{List, NoMemory};
 use fm_list::keeps_least_offset;
 use fm_model::Row;
@@ -27,13 +27,12 @@ pub(crate) fn push_kept(
     ensures rows { OnOk result (rows.new ≡ rows.old ++ filter_map spec.kept_row page.now.entries) }
     ensures oldest { OnOk result (oldest.new ≡ oldest.old ++ spec.oldest_runs page.now.entries) }
 {
-    for (valid, files) in page {
-        let all = files.get().all();
-        push_best(rows, &all, *valid, None)?;
-        oldest.push(Oldest {
-            valid: *valid,
-            run: all.oldest(),
-        })?;
+    for at in 0..page.len() {
+        let (valid, files) = page.entry(at);
+        let all = files.all();
+        push_best(rows, &all, valid, None)?;
+        let run = all.oldest();
+        oldest.push(Oldest { valid, run })?;
     }
     Ok(())
 }
@@ -91,7 +90,7 @@ fn push_reached(
             });
         }
     }
-    push_best(rows, &files_in(page, valid), valid, least)
+    push_best(rows, &page.files(valid), valid, least)
 }
 
 // Adds the row of a valid time with a least offset, if there is one: where it lies that far after the run beside it,

@@ -1,6 +1,7 @@
 //! The maps of an edition.
 ghost use Rattle.std.specs.Prelude.{◌≡◌, [], IfOk};
-ghost use Rattle.fm_list.specs.Selected.{AreOwn};
+ghost use Rattle.fm_model.specs.Rising.{Rises};
+ghost use Rattle.fm_list.specs.Change.{added};
 ghost use Rattle.fm_edition.specs.Indexes as spec;
 ghost use Rattle.fm_edition.specs.Steps.{AreDone, HaveGone};
 
@@ -36,13 +37,12 @@ pub(crate) fn no_maps(alloc: Global) -> Index
     }
 }
 
-// The instants by which the file is found that an operation adds.
-fn own_of(alloc: Global, by: By, op: &Op) -> Result<List<i64>, NoMemory>
-    ensures { IfOk result (λ own. AreOwn by op.now own) }
-{
-    let added = changed(List::new(alloc), op)?;
-    let own = instants_in(alloc, by, added.as_slice())?;
-    Ok(own)
+/// An operation, the files that it takes out, and those that it adds.
+#[derive(Clone, Copy)]
+pub(crate) struct Exchange<'a> {
+    pub op: &'a Op,
+    pub went: &'a [Placed],
+    pub added: &'a [Placed],
 }
 
 // The pages after an operation that touches some instants.
@@ -51,18 +51,21 @@ fn after_change(
     pages: &Pages,
     by: By,
     touched: &[i64],
-    went: &[Placed],
-    op: &Op,
+    exchange: &Exchange<'_>,
 ) -> Result<Pages, NoMemory>
+    requires rise { Rises touched.now }
+    requires added { exchange.now.added.now ≡ added exchange.now.op.now }
     requires ordered { spec.AreOrdered pages.now }
-    requires gone { HaveGone went.now op.now pages.now }
-    ensures { IfOk result (AreDone by touched.now op.now pages.now) }
+    requires gone { HaveGone exchange.now.went.now exchange.now.op.now pages.now }
+    ensures { IfOk result (AreDone by touched.now exchange.now.op.now pages.now) }
 {
-    let own = own_of(alloc, by, op)?;
+    let Exchange { op, went, added } = *exchange;
+    let own = instants_in(alloc, by, added)?;
     let change = Change {
         by,
         op,
         went,
+        added,
         touched,
         own: own.as_slice(),
     };
@@ -75,15 +78,15 @@ fn map_after(
     pages: &Pages,
     by: By,
     changed: &[Placed],
-    went: &[Placed],
-    op: &Op,
+    exchange: &Exchange<'_>,
 ) -> Result<Pages, NoMemory>
+    requires added { exchange.now.added.now ≡ added exchange.now.op.now }
     requires ordered { spec.AreOrdered pages.now }
-    requires gone { HaveGone went.now op.now pages.now }
-    ensures { IfOk result (AreDone by (spec.instants by changed.now) op.now pages.now) }
+    requires gone { HaveGone exchange.now.went.now exchange.now.op.now pages.now }
+    ensures { IfOk result (AreDone by (spec.instants by changed.now) exchange.now.op.now pages.now) }
 {
     let touched = instants_in(alloc, by, changed)?;
-    after_change(alloc, pages, by, touched.as_slice(), went, op)
+    after_change(alloc, pages, by, touched.as_slice(), exchange)
 }
 
 impl Edition {
@@ -91,30 +94,29 @@ impl Edition {
     ghost use Rattle.fm_list.specs.Change as change;
     ghost use Rattle.fm_edition.specs.Log.{CanFollow};
 
-    // The maps after an operation that takes out and adds some files.
+    // The maps after an operation, where `changed` are the files that it takes out and those that it adds.
     fn maps_after(
         &self,
         alloc: Global,
         changed: &[Placed],
-        went: &[Placed],
-        op: &Op,
+        exchange: &Exchange<'_>,
     ) -> Result<Index, NoMemory>
-        requires went { went.now ≡ change.gone self.now.files op.now }
-        requires changed { changed.now ≡ change.changed self.now.files op.now }
-        requires can { CanFollow self.now.proto self.now.files op.now }
-        ensures { IfOk result (λ index. spec.AreMaps (after_op self.now.files op.now) index) }
+        requires went { exchange.now.went.now ≡ change.gone self.now.files exchange.now.op.now }
+        requires added { exchange.now.added.now ≡ change.added exchange.now.op.now }
+        requires changed { changed.now ≡ change.changed self.now.files exchange.now.op.now }
+        requires can { CanFollow self.now.proto self.now.files exchange.now.op.now }
+        ensures { IfOk result (λ index. spec.AreMaps (after_op self.now.files exchange.now.op.now) index) }
     {
         let times = instants_in(alloc, By::Time, changed)?;
-        let by_run = map_after(alloc, &self.index.by_run, By::Run, changed, went, op)?;
+        let by_run = map_after(alloc, &self.index.by_run, By::Run, changed, exchange)?;
         let by_time = after_change(
             alloc,
             &self.index.by_time,
             By::Time,
             times.as_slice(),
-            went,
-            op,
+            exchange,
         )?;
-        let by_name = map_after(alloc, &self.index.by_name, By::Name, changed, went, op)?;
+        let by_name = map_after(alloc, &self.index.by_name, By::Name, changed, exchange)?;
         let best = best_after(alloc, &self.index.best, &by_time, times.as_slice())?;
         Ok(Index {
             by_run,
@@ -137,7 +139,7 @@ impl Edition {
     {
         let count = gone.len();
         let changed = changed(gone, op)?;
-        let (went, _) = changed.as_slice().split_at(count);
-        self.maps_after(alloc, changed.as_slice(), went, op)
+        let (went, added) = changed.as_slice().split_at(count);
+        self.maps_after(alloc, changed.as_slice(), &Exchange { op, went, added })
     }
 }

@@ -5,8 +5,6 @@ ghost use Rattle.fm_model.specs.declared.loaded.Loaded.{Loaded as File};
 ghost use Rattle.fm_model.specs.Collection.{after_op, holds_older};
 ghost use Rattle.fm_list.specs.Change as change;
 ghost use Rattle.fm_list.specs.Change.{HasGone};
-ghost use Rattle.fm_list.specs.Selected as selected;
-ghost use Rattle.fm_list.specs.Selected.{AreOwn};
 ghost use Rattle.fm_edition.specs.Pieces as spec;
 
 use crate::maps::files::{Files, Piece};
@@ -143,27 +141,19 @@ fn rolled(
     })
 }
 
-// The files by an instant after an operation. The pieces are shorter than those of all files, since many lists change.
+// The files by an instant after an operation, and others behind them. The pieces are shorter than those of all files,
+// since many lists change.
 pub(crate) fn roll_after(
     alloc: Global,
-    key: i64,
     files: &Files<'_>,
     change: &Change<'_>,
+    added: &[Placed],
 ) -> Result<Roll, NoMemory>
-    requires own { AreOwn change.now.by change.now.op.now change.now.own.now }
-    requires gone { HasGone change.now.went.now change.now.op.now files.now }
-    ensures { IfOk result (λ next. next ≡ selected.part_after change.now.by key change.now.op.now files.now) }
+    requires { HasGone change.now.went.now change.now.op.now files.now }
+    ensures { IfOk result (λ next. next ≡ filter (change.keeps change.now.op.now) files.now ++ added.now) }
 {
     let pieces = kept_pieces(alloc, files.pieces, change.went, change.op)?;
-    let last = part_after(
-        alloc,
-        change.by,
-        key,
-        files.last,
-        change.went,
-        change.op,
-        change.own,
-    )?;
+    let last = part_after(alloc, files.last, change.went, change.op, added)?;
     rolled(alloc, pieces, last, 16)
 }
 

@@ -8,7 +8,8 @@ ghost use Rattle.fm_edition.specs.Latest.{entry_of};
 use crate::maps::entry::{has_wanted, push_wanted};
 use crate::maps::files::Files;
 use crate::maps::latest::RunFiles;
-use crate::maps::pages::{Page, Pages};
+use crate::maps::page::Page;
+use crate::maps::pages::Pages;
 use crate::maps::wanted::Wanted;
 use fm_base::{List, NoMemory};
 use fm_model::Row;
@@ -19,8 +20,9 @@ use std::alloc::Global;
 fn push_keys(keys: &mut List<i64>, page: &Page) -> Result<(), NoMemory>
     ensures { OnOk result (keys.new ≡ keys.old ++ keys_in page.now.entries) }
 {
-    for (key, _) in page {
-        keys.push(*key)?;
+    for at in 0..page.len() {
+        let (key, _) = page.entry(at);
+        keys.push(key)?;
     }
     Ok(())
 }
@@ -40,11 +42,9 @@ pub(crate) fn keys_of(alloc: Global, pages: &Pages) -> Result<List<i64>, NoMemor
 fn push_runs<'a>(runs: &mut List<RunFiles<'a>>, page: &'a Page) -> Result<(), NoMemory>
     ensures { OnOk result (map entry_of runs.new ≡ map entry_of runs.old ++ page.now.entries) }
 {
-    for (run, files) in page {
-        runs.push(RunFiles {
-            run: *run,
-            files: files.get(),
-        })?;
+    for at in 0..page.len() {
+        let (run, files) = page.entry(at);
+        runs.push(RunFiles { run, files })?;
     }
     Ok(())
 }
@@ -65,8 +65,9 @@ fn push_page(rows: &mut List<Row>, page: &Page, wanted: Wanted) -> Result<(), No
     requires { All spec.IsSound page.now.entries }
     ensures { OnOk result (rows.new ≡ rows.old ++ filter_map (spec.entry_row wanted) page.now.entries) }
 {
-    for (key, files) in page {
-        push_wanted(rows, &files.get().all(), *key, wanted)?;
+    for at in 0..page.len() {
+        let (key, files) = page.entry(at);
+        push_wanted(rows, &files.all(), key, wanted)?;
     }
     Ok(())
 }
@@ -94,8 +95,9 @@ fn is_one(files: &Files<'_>) -> bool
 pub(crate) fn each_one(page: &Page) -> bool
     ensures { result ≡ spec.each_one page.now.entries }
 {
-    for (_, files) in page {
-        if !is_one(&files.get().all()) {
+    for at in 0..page.len() {
+        let (_, files) = page.entry(at);
+        if !is_one(&files.all()) {
             return false;
         }
     }
@@ -109,8 +111,9 @@ fn count_page(page: &Page, wanted: Wanted) -> usize
     ensures { result ≡ length (filter_map (spec.entry_row wanted) page.now.entries) }
 {
     let mut count = 0;
-    for (key, files) in page {
-        if has_wanted(&files.get().all(), *key, wanted) {
+    for at in 0..page.len() {
+        let (key, files) = page.entry(at);
+        if has_wanted(&files.all(), key, wanted) {
             count += 1;
         }
     }

@@ -60,7 +60,7 @@ impl<'a> Files<'a> {
         self.cell_near(run, valid, 0)
     }
 
-    // The same. A look into a file begins `near` times behind the index beside it.
+    // The same. A look into a file begins at the index `near`.
     pub(crate) fn cell_near(
         &self,
         run: i64,
