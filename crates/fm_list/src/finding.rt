@@ -51,7 +51,7 @@ pub fn is_among(instants: &[i64], instant: i64) -> bool
     ensures { result ≡ list_any (λ other. int_eq other instant) instants.now }
 {
     match instants.binary_search(&instant) {
-        Ok(_index) => true,
+        Ok(_) => true,
         Err(_) => false,
     }
 }

@@ -7,7 +7,7 @@ use Rattle.fm_list.proofs.finding.is_among.Goals as goal
 pub returns-in-Ok : goal.returns-in-Ok
 returns-in-Ok c =
     let a : SFits w64 c.args.instant = search rules in
-    among_there c.args.instants.now c.in-Ok.index c.args.instant c.in-Ok.ensures.bound (simp to_z-of_z at c.in-Ok.ensures.ok)
+    among_there c.args.instants.now _ c.args.instant c.in-Ok.ensures.bound (simp to_z-of_z at c.in-Ok.ensures.ok)
 
 pub returns-in-Err : goal.returns-in-Err
 returns-in-Err c =
