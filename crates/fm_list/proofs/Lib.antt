@@ -3,5 +3,5 @@ pub mod BestSteps
 pub mod CellSteps
 pub mod OldestRun
 pub mod SearchLemmas
-pub mod StayLemmas
+pub mod SpacingLemmas
 pub mod TimeSteps

@@ -11,6 +11,7 @@ ghost use Rattle.fm_list.specs.Selected.{AreSound, HasSoundTimes};
 
 use crate::offset::keeps_least_offset;
 use crate::placed::Placed;
+use crate::spacing::{Spacing, even_index};
 use fm_base::Arc;
 use fm_model::Loaded;
 
@@ -56,39 +57,14 @@ pub fn is_among(instants: &[i64], instant: i64) -> bool
     }
 }
 
-// Whether a valid time stands at an index.
-fn stands(times: &[i64], index: usize, valid: i64) -> bool
-    ensures { result ≡ true → slice_get times.now index ≡ Some valid }
-{
-    index < times.len() && times[index] == valid
-}
-
-// Where a valid time stands among times that lie evenly apart.
-fn even_index(times: &[i64], valid: i64) -> usize {
-    let [first, second, ..] = times else {
-        return 0;
-    };
-    match (valid.checked_sub(*first), second.checked_sub(*first)) {
-        (Some(far), Some(gap)) => match far.checked_div(gap) {
-            Some(index) => usize::try_from(index).unwrap_or(0),
-            None => 0,
-        },
-        _ => 0,
-    }
-}
-
 // An index of a valid time among some times: a guess where it stands there, or what a search finds. Where the times
-// don't rise, a search may find none. Among times that lie evenly apart none is needed.
+// don't rise, a search may find none.
 fn searched(times: &[i64], guess: usize, valid: i64) -> Option<usize>
     ensures found { IfSome result (λ index. slice_get times.now index ≡ Some valid) }
     ensures none { IsNone result → Rises times.now → false ≡ list_any (λ time. int_eq time valid) times.now }
 {
-    if stands(times, guess, valid) {
+    if guess < times.len() && times[guess] == valid {
         return Some(guess);
-    }
-    let even = even_index(times, valid);
-    if stands(times, even, valid) {
-        return Some(even);
     }
     match times.binary_search(&valid) {
         Ok(index) => Some(index),
@@ -104,7 +80,7 @@ fn walked(times: &[i64], valid: i64) -> Option<usize>
 }
 
 // The first index of a valid time among times that differ. Where they don't rise, a walk finds what a search may not.
-fn index_of(times: &[i64], guess: usize, rise: bool, valid: i64) -> Option<usize>
+fn first_index(times: &[i64], guess: usize, rise: bool, valid: i64) -> Option<usize>
     requires differ { AllPairs (λ time other. time ≢ other) times.now }
     requires rise { rise ≡ true → Rises times.now }
     ensures { result ≡ position (λ time. int_eq time valid) times.now }
@@ -118,7 +94,33 @@ fn index_of(times: &[i64], guess: usize, rise: bool, valid: i64) -> Option<usize
     walked(times, valid)
 }
 
-// The index of a valid time in a file, where the file is of this run. A look begins at the index `near`.
+// The first index of a valid time in a file, where a look at its times begins at the index `near`.
+fn index_among(file: &Placed, near: usize, rise: bool, valid: i64) -> Option<u32>
+    requires sound { HasSoundTimes file.now }
+    requires rise { rise ≡ true → Rises file.now.times }
+    ensures { result ≡ position (λ time. int_eq time valid) file.now.times }
+{
+    let times = file.get().times.as_slice();
+    match first_index(times, near, rise, valid) {
+        Some(index) => Some(index as u32),
+        None => None,
+    }
+}
+
+// The first index of a valid time in a file. Where the times lie evenly apart no look at them is needed. Else one begins
+// at the index `near`.
+fn time_in(file: &Placed, valid: i64, near: usize) -> Option<u32>
+    requires { HasSoundTimes file.now }
+    ensures { result ≡ position (λ time. int_eq time valid) file.now.times }
+{
+    match file.spacing() {
+        Spacing::Even { count, step, first } => even_index(count, step, first, valid),
+        Spacing::Rising => index_among(file, near, true, valid),
+        Spacing::Unknown => index_among(file, near, false, valid),
+    }
+}
+
+// The index of a valid time in a file, where the file is of this run. A look at its times begins at the index `near`.
 fn index_in(file: &Placed, run: i64, valid: i64, near: usize) -> Option<u32>
     requires { HasSoundTimes file.now }
     ensures { result ≡ cell_in run valid file.now }
@@ -127,11 +129,7 @@ fn index_in(file: &Placed, run: i64, valid: i64, near: usize) -> Option<u32>
     if own != run {
         return None;
     }
-    let times = file.get().times.as_slice();
-    match index_of(times, near, file.times_rise(), valid) {
-        Some(index) => Some(index as u32),
-        None => None,
-    }
+    time_in(file, valid, near)
 }
 
 /// The last file of a run with a valid time, and the time's index in it. A look into a file begins at the index `near`.

@@ -8,6 +8,7 @@ pub mod finding;
 mod offset;
 pub mod part;
 mod placed;
+mod spacing;
 mod times;
 
 pub use by::By;

@@ -1,43 +1,43 @@
 //! A file beside its run, so that a look-up finds it where it looks.
 
-use crate::times::rise;
+use crate::spacing::{Spacing, spacing_of};
 use fm_base::{Arc, NoMemory};
 use fm_model::Loaded;
 use std::marker::Model;
 
-/// A file, its run, and whether its times rise. A clause sees the file alone.
+/// A file, its run, and how its times lie. A clause sees the file alone.
 #[derive(Drop)]
 pub struct Placed {
     file: Arc<Loaded>,
     run: i64,
-    rises: bool,
+    spacing: Spacing,
 }
 
 impl Model for Placed {
-    ghost use Rattle.std.specs.Prelude.{◌≡◌, true};
+    ghost use Rattle.std.specs.Prelude.{◌≡◌};
     ghost use Rattle.fm_model.specs.declared.loaded.Loaded.{Loaded as File};
-    ghost use Rattle.fm_model.specs.Rising.{Rises};
+    ghost use Rattle.fm_list.specs.Times.{Describes};
 
     ghost Value = { File };
 
     ghost view = { λ placed. placed.file };
 
-    ghost invariant = { λ placed. (placed.run ≡ placed.file.run) × (placed.rises ≡ true → Rises placed.file.times) };
+    ghost invariant = { λ placed. (placed.run ≡ placed.file.run) × Describes placed.spacing placed.file.times };
 }
 
 impl Placed {
-    ghost use Rattle.std.specs.Prelude.{◌≡◌, IfOk, true};
-    ghost use Rattle.fm_model.specs.Rising.{Rises};
+    ghost use Rattle.std.specs.Prelude.{◌≡◌, IfOk};
+    ghost use Rattle.fm_list.specs.Times.{Describes};
 
     /// A file, whose times are looked through once.
     pub fn new(file: Arc<Loaded>) -> Placed
         ensures { result ≡ file }
     {
         let Loaded { run, times, .. } = file.get();
-        let rises = rise(times.as_slice());
+        let spacing = spacing_of(times.as_slice());
         Placed {
             run: *run,
-            rises,
+            spacing,
             file,
         }
     }
@@ -61,11 +61,11 @@ impl Placed {
         self.run
     }
 
-    // Whether its times rise.
-    pub(crate) fn times_rise(&self) -> bool
-        ensures { result ≡ true → Rises self.now.times }
+    // How its times lie.
+    pub(crate) fn spacing(&self) -> Spacing
+        ensures { Describes result self.now.times }
     {
-        self.rises
+        self.spacing
     }
 
     /// One more owner of the file.
@@ -76,7 +76,7 @@ impl Placed {
         Ok(Placed {
             file,
             run: self.run,
-            rises: self.rises,
+            spacing: self.spacing,
         })
     }
 }

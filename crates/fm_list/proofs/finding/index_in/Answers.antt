@@ -5,40 +5,14 @@ use Rattle.std.proofs.lemmas.Int.{ints, to_z-of_z}
 use Rattle.fm_list.proofs.CellSteps.{cell_in-other_run, cell_in-own_run}
 use Rattle.fm_list.proofs.finding.index_in.Goals as goal
 
-pub index_of-requires-clause-differ : goal.index_of-requires-clause-differ
-index_of-requires-clause-differ c = rw (c.as_slice-times.ensures, c.get.ensures) c.requires.differ
-
-pub index_of-requires-clause-rise : goal.index_of-requires-clause-rise
-index_of-requires-clause-rise c = λ rise. rw (c.as_slice-times.ensures, c.get.ensures) (c.times_rise.ensures rise)
-
 pub returns-then-own-run : goal.returns-then-own-run
 returns-then-own-run c = sym (cell_in-other_run c.args.run c.args.valid c.args.file.now
     (grind (arith, ints, c.if-own-run.true, c.run-own.ensures)))
 
-pub returns-in-Some : goal.returns-in-Some
-returns-in-Some c =
+pub returns : goal.returns
+returns c =
     let fits : SFits w64 c.args.valid = search rules in
     let own : int_eq c.args.file.now.run c.args.run ≡ true = grind
     (arith, ints, c.if-own-run.false, c.run-own.ensures) in
-    let at = simp to_z-of_z at c.index_of.ensures in
-    cc (
-      cell_in-own_run c.args.run c.args.valid c.args.file.now own,
-      at,
-      c.as_slice-times.ensures,
-      c.get.ensures,
-      c.in-Some.is,
-    )
-
-pub returns-in-None : goal.returns-in-None
-returns-in-None c =
-    let fits : SFits w64 c.args.valid = search rules in
-    let own : int_eq c.args.file.now.run c.args.run ≡ true = grind
-    (arith, ints, c.if-own-run.false, c.run-own.ensures) in
-    let at = simp to_z-of_z at c.index_of.ensures in
-    cc (
-      cell_in-own_run c.args.run c.args.valid c.args.file.now own,
-      at,
-      c.as_slice-times.ensures,
-      c.get.ensures,
-      c.in-None.is,
-    )
+    let at = simp to_z-of_z at c.time_in.ensures in
+    cc (cell_in-own_run c.args.run c.args.valid c.args.file.now own, at)

@@ -1,7 +1,7 @@
 -- One more of the others.
 use Rattle.std.proofs.Common.{◌++◌, ap, rules, ◌∙◌}
 use Rattle.std.specs.Prelude.{filter}
-use Rattle.std.proofs.lemmas.List.{append-nil, append_assoc, take_all, take_more}
+use Rattle.std.proofs.lemmas.List.{append_assoc, take_all, take_more}
 use Rattle.fm_list.specs.Change.{keeps}
 use Rattle.fm_list.proofs.part.part_after.Goals as goal
 

@@ -3,7 +3,7 @@ use Rattle.std.proofs.Common.{ap, rules, SFits, w64}
 use Rattle.std.specs.Prelude.{is_some}
 use Rattle.std.proofs.lemmas.Int.{to_z-of_z}
 use Rattle.fm_list.proofs.SearchLemmas.{position_is, position-nowhere}
-use Rattle.fm_list.proofs.finding.index_of.Goals as goal
+use Rattle.fm_list.proofs.finding.first_index.Goals as goal
 
 pub returns-in-Some : goal.returns-in-Some
 returns-in-Some c =
