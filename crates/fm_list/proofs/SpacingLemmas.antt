@@ -1,12 +1,12 @@
 -- Times that lie evenly apart, and the index of one of them.
-use Rattle.std.proofs.Common.{◌≡◌, ◌≢◌, ℕ, ◌+◌, ◌*◌, ◌/◌, ◌%◌, ◌<◌, Bool, true, false, List, get_or, Option, None, Some, ℤ, pos, ◌+ℤ◌, ◌-ℤ◌, refl, sym, ap, ◌∙◌, arith}
-use Rattle.std.specs.Prelude.{AllPairs, IfSome, IsNone, position, unsigned_abs}
+use Rattle.std.proofs.Common.{◌≡◌, ◌≢◌, ℕ, ◌+◌, ◌*◌, ◌/◌, ◌%◌, ◌<◌, ◌≤ℤ◌, Bool, true, false, List, get_or, Option, None, Some, ℤ, pos, ◌+ℤ◌, ◌-ℤ◌, refl, sym, ap, ◌∙◌, arith}
+use Rattle.std.specs.Prelude.{AllPairs, IfSome, IsNone, int_lt, position, unsigned_abs}
 use Rattle.std.specs.Cmp.{signed_Decides}
 use Rattle.std.specs.List.{list_any}
 use Rattle.std.specs.Ordering.{int_eq}
 use Rattle.std.proofs.lemmas.Int.{ints}
 use Rattle.std.proofs.lemmas.List.Folds.{Any-from_list_any}
-use Rattle.std.proofs.lemmas.Nat.{div-mul-add, mod-mul-add}
+use Rattle.std.proofs.lemmas.Nat.{div-add-mod', div-mul-add, mod-mul-add}
 use Rattle.std.proofs.lemmas.Option.{same_Some, slice_get-get_or}
 use Rattle.fm_list.proofs.SearchLemmas.{position_is, position-nowhere}
 use Rattle.fm_list.specs.Times.{AreEven}
@@ -19,6 +19,14 @@ whole_steps first valid step index forward is =
       ap (λ n. n % step) far ∙ mod-mul-add index step 0 forward,
       ap (λ n. n / step) far ∙ div-mul-add index step 0 forward,
     )
+
+-- a time that lies whole steps behind the first stands at their number
+pub stands_at : (first valid : ℤ) (step far : ℕ) → int_lt valid first ≡ false → far ≡ unsigned_abs (valid -ℤ first)
+    → far % step ≡ 0 → valid ≡ first +ℤ pos (far / step * step)
+stands_at first valid step far later is whole =
+    let parts : far / step * step + 0 ≡ far = ap (λ n. far / step * step + n) (sym whole) ∙ div-add-mod' far step in
+    let behind : first ≤ℤ valid = grind (arith, ints) in
+    omega (arith, ints)
 
 -- the index that is told of a valid time is its first among the times
 pub told-position : (count step : ℕ) (first : ℤ) (times : List ℤ) (valid : ℤ) (told : Option ℕ)

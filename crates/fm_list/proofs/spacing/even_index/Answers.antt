@@ -1,8 +1,9 @@
--- A valid time that lies no whole number of steps behind the first, or too many, is none of the times.
-use Rattle.std.proofs.Common.{◌≡◌, ◌/◌, ◌%◌, ◌-ℤ◌, rules, arith, SFits, w64}
+-- A valid time stands at the number of whole steps that it lies behind the first. Where it lies no whole number of them
+-- behind it, or too many, it is none of the times.
+use Rattle.std.proofs.Common.{◌≡◌, ◌*◌, ◌/◌, ◌%◌, pos, ◌+ℤ◌, ◌-ℤ◌, ap, ◌∙◌, rules, arith, SFits, w64}
 use Rattle.std.specs.Prelude.{unsigned_abs}
 use Rattle.std.proofs.lemmas.Int.{to_z-of_z}
-use Rattle.fm_list.proofs.SpacingLemmas.{whole_steps}
+use Rattle.fm_list.proofs.SpacingLemmas.{stands_at, whole_steps}
 use Rattle.fm_list.proofs.spacing.even_index.Goals as goal
 use Rattle.fm_list.proofs.spacing.even_index.Goals.{then-far-step-ne0-via-then-far-step-ne0, then-far-step-ne0-via-else-far-step-ne0+then-index-from}
 
@@ -20,3 +21,14 @@ returns-then-far-step-ne0-clause-none c = λ none index within is.
       | then-far-step-ne0-via-else-far-step-ne0+then-index-from w ↦
           omega (arith, at, within, w.if-index-from.true, w.from.ensures)
     ]
+
+pub returns-clause-found : goal.returns-clause-found
+returns-clause-found c =
+    let a : SFits w64 c.args.valid = search rules in
+    let b : SFits w64 c.args.first = search rules in
+    let step : c.from-step.result ≡ c.args.step = c.from-step.ensures in
+    let stands = stands_at c.args.first c.args.valid c.from-step.result c.abs_diff-far.result
+    (simp to_z-of_z at c.if-valid-first.false) (simp to_z-of_z at c.abs_diff-far.ensures) c.if-far-step-ne0.false in (
+      omega (arith, c.if-index-from.false, c.from.ensures),
+      stands ∙ ap (λ s. c.args.first +ℤ pos (c.abs_diff-far.result / c.from-step.result * s)) step,
+    )
