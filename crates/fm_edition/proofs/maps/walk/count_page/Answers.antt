@@ -48,11 +48,11 @@ loop-at-preserved c =
     record {
       sound = all_rest IsSound entry rest here c.entry-key.ensures so_far.sound;
       counted = elim c.if-has_wanted.branch [
-          | then-has_wanted w ↦
-              rw w.count-is (counted_more make c.loop-at.count entry rest here whole c.entry-key.ensures
-              so_far.counted (own ∙ w.if-has_wanted.true))
-          | else-has_wanted w ↦
-              rw w.count-is (counted_passed make c.loop-at.count entry rest here whole c.entry-key.ensures
-              so_far.counted (own ∙ w.if-has_wanted.false))
-        ];
+        | then-has_wanted w ↦
+            rw w.count-is (counted_more make c.loop-at.count entry rest here whole c.entry-key.ensures
+            so_far.counted (own ∙ w.if-has_wanted.true))
+        | else-has_wanted w ↦
+            rw w.count-is (counted_passed make c.loop-at.count entry rest here whole c.entry-key.ensures
+            so_far.counted (own ∙ w.if-has_wanted.false))
+      ];
     }

@@ -1,5 +1,5 @@
 -- One more row.
-use Rattle.std.proofs.Common.{◌≡◌, ◌+◌, List, ◌++◌, drop, rules, ap, sym, subst, SFits, w64, refl}
+use Rattle.std.proofs.Common.{◌+◌, List, ◌++◌, drop, rules, ap, sym, subst, SFits, w64}
 use Rattle.std.specs.List.{filter_map}
 use Rattle.std.proofs.lemmas.Int.{to_z-of_z}
 use Rattle.fm_model.specs.declared.loaded.Loaded.{Loaded}
