@@ -1,10 +1,10 @@
 -- A walk through pages, and what it comes by.
-use Rattle.std.proofs.Common.{◌≡◌, List, [], ◌∷◌, ◌++◌, Option, Some, None, ℤ, refl, sym, ap, subst, ◌∙◌}
+use Rattle.std.proofs.Common.{◌≡◌, ℕ, ◌+◌, ◌<◌, List, [], ◌∷◌, ◌++◌, length, get_or, take, Option, Some, None, ℤ, refl, sym, ap, subst, ◌∙◌}
 use Rattle.std.specs.Prelude.{All, map}
 use Rattle.std.specs.List.{filter_map, cons_option}
 use Rattle.std.specs.Map.{keys_of}
 use Rattle.std.specs.Option.{option_to_list}
-use Rattle.std.proofs.lemmas.List.{append_assoc, map-append}
+use Rattle.std.proofs.lemmas.List.{append_assoc, map-append, take_more}
 use Rattle.std.proofs.lemmas.List.Elements.{filter_map-append}
 use Rattle.fm_model.specs.declared.loaded.Loaded.{Loaded}
 use Rattle.fm_model.proofs.Members.{Each, All-from_each, each_from_All}
@@ -38,6 +38,17 @@ pub made_taken : {A B : Type 0} (f : A → B) (made : List A) (whole : List B) (
 made_taken f made whole item next rest before is sum gives =
     ap (λ l. l ++ rest) (map-append f made (item ∷ []) ∙ ap (λ x. map f made ++ x ∷ []) gives)
     ∙ append_assoc (map f made) (next ∷ []) rest ∙ ap (λ l. map f made ++ l) (sym is) ∙ sum
+
+-- what is made of one more item
+pub filter_map-more : {A B : Type 0} (make : A → Option B) (items : List A) (i : ℕ) (d : A) → i < length items
+    → filter_map make (take (i + 1) items) ≡ filter_map make (take i items) ++ option_to_list (make (get_or items i d))
+filter_map-more {A} {B} make items i d lt =
+    ap (filter_map make) (take_more items i d lt) ∙ filter_map-append make (take i items) (get_or items i d ∷ [])
+    ∙ ap (λ l. filter_map make (take i items) ++ l) (alone (make (get_or items i d)))
+  where
+    alone : (o : Option B) → cons_option o [] ≡ option_to_list o
+    alone None = refl
+    alone (Some x) = refl
 
 -- what is made of the items so far and of those that are left, with one item more
 pub one_taken : {A B : Type 0} (make : A → Option B) (made : List B) (o : Option B) (item : A) (rest before : List A)
