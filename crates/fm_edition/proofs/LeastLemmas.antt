@@ -1,7 +1,6 @@
 -- Rows that keep a least offset are those of the best time series with it.
 use Rattle.std.proofs.Common.{◌≡◌, true, false, List, [], ◌∷◌, Option, Some, None, ℤ, refl, sym, ap, ap₂, subst, ◌∙◌}
 use Rattle.std.specs.Prelude.{is_some, option_and_then}
-use Rattle.std.specs.BTreeMap.{BTreeMap}
 use Rattle.std.specs.List.{filter_map, cons_option}
 use Rattle.std.proofs.lemmas.Bool.{true≢false}
 use Rattle.fm_model.specs.declared.loaded.Loaded.{Loaded}
@@ -11,7 +10,7 @@ use Rattle.fm_model.specs.Rows.{best_row, row_at}
 use Rattle.fm_model.proofs.BestLemmas.{IsBest-from_best, best-from_IsBest, no_best_both, offset_from_test}
 use Rattle.fm_model.proofs.Members.{All-from_each, Each, Each-weaker, each_from_All}
 use Rattle.fm_model.proofs.RowLemmas.{IsBestRow-from_best_row}
-use Rattle.fm_edition.specs.Indexes.{best_of_entry, kept_row, page_rows}
+use Rattle.fm_edition.specs.Indexes.{best_of_entry, kept_row}
 use Rattle.fm_edition.specs.Least.{KeepLeast}
 use Rattle.fm_edition.proofs.CountLemmas.{is_some-best_row}
 
@@ -78,7 +77,8 @@ rows_same least (entry ∷ entries) each = by_row (best_row entry.1 None entry.0
         ap₂ (λ (o : Option Row) (l : List Row). cons_option o l)
         (same_row entry.1 entry.0 least row is all.0 ∙ sym is) (more all.1)
 
--- the rows of a page that keep a least offset
-pub from_kept : (least : Option ℤ) (page : BTreeMap ℤ (List Loaded)) → KeepLeast least (page_rows page).rows
-    → (page_rows page).rows ≡ filter_map (best_of_entry least) page.entries
-from_kept least page keep = sym (rows_same least page.entries (each_from_All (Keeps least) (page_rows page).rows keep))
+-- the rows of some valid times that keep a least offset
+pub from_kept : (least : Option ℤ) (entries : List (ℤ × List Loaded)) → KeepLeast least (filter_map kept_row entries)
+    → filter_map kept_row entries ≡ filter_map (best_of_entry least) entries
+from_kept least entries keep = sym (rows_same least entries (each_from_All (Keeps least) (filter_map kept_row entries)
+    keep))

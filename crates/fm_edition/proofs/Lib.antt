@@ -21,5 +21,6 @@ pub mod PieceLemmas
 pub mod RowLemmas
 pub mod RunLemmas
 pub mod SetLemmas
+pub mod ShownLemmas
 pub mod TallyLemmas
 pub mod WalkLemmas

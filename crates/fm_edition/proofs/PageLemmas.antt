@@ -13,7 +13,7 @@ use Rattle.fm_model.specs.Collection.{after_op}
 use Rattle.fm_list.specs.declared.by.By.{By}
 use Rattle.fm_list.specs.Change.{changed}
 use Rattle.fm_list.specs.Selected.{part, part_after}
-use Rattle.fm_edition.specs.Indexes.{in_page, instants, is_among, or_none, page_of, page_set, shown_in, some_of, updated, AreOrdered, AreParts, Pages}
+use Rattle.fm_edition.specs.Indexes.{in_page, instants, is_among, or_none, page_of, page_set, shown_in, some_of, AreOrdered, AreParts, Pages}
 use Rattle.fm_edition.proofs.ChangeLemmas.{part-after, part-untouched}
 
 -- entries that are clones are the same
@@ -26,83 +26,6 @@ same_entries ((k, x) ∷ from) ((l, y) ∷ to) all =
     let values : y ≡ x = all.0.1 in
     let more : to ≡ from = same_entries from to all.1 in
     rw (keys, values, more) refl
-
--- one more instant is among those that are touched
-among-more : (touched : List ℤ) (i : ℕ) (d key : ℤ) → i < length touched
-    → is_among (take (i + 1) touched) key ≡ (is_among (take i touched) key || int_eq (get_or touched i d) key)
-among-more touched i d key lt = ap (λ l. is_among l key) (take_more touched i d lt)
-    ∙ list_any-append (λ other. int_eq other key) (take i touched) (get_or touched i d ∷ [])
-    ∙ ap (λ b. is_among (take i touched) key || b) (or_false (int_eq (get_or touched i d) key))
-  where
-    or_false : (b : Bool) → (b || false) ≡ b
-    or_false true = refl
-    or_false false = refl
-
--- one more instant is set in its page
-pub page_set-more : (by : By) (touched : List ℤ) (op : Op) (held : ℤ → ℤ → Option (List Loaded)) (number key : ℤ)
-    (i : ℕ) (d : ℤ) → i < length touched → page_of (get_or touched i d) ≡ number
-    → page_set by (take (i + 1) touched) op held number key
-    ≡ updated (get_or touched i d)
-    (some_of (part_after by (get_or touched i d) op (or_none (held number (get_or touched i d)))))
-    (page_set by (take i touched) op held number) key
-unfolding page_set
-page_set-more by touched op held number key i d lt own =
-    rw (among-more touched i d key lt) (by_test (int_eq (get_or touched i d) key) refl)
-  where
-    set : ℤ → Option (List Loaded)
-    set k = some_of (part_after by k op (or_none (held number k)))
-
-    last_case : (a b : Bool) → a ≡ true
-        → cond (a && (b || true)) (set key) (held number key) ≡ set key
-    last_case true true e = refl
-    last_case true false e = refl
-    last_case false b e = absurd (false≢true e)
-
-    first_case : (a b : Bool) → cond (a && (b || false)) (set key) (held number key)
-        ≡ cond (a && b) (set key) (held number key)
-    first_case true true = refl
-    first_case true false = refl
-    first_case false b = refl
-
-    by_test : (b : Bool) → int_eq (get_or touched i d) key ≡ b
-        → cond (int_eq (page_of key) number && (is_among (take i touched) key || b)) (set key) (held number key)
-        ≡ cond b (set (get_or touched i d))
-        (cond (int_eq (page_of key) number && is_among (take i touched) key) (set key) (held number key))
-    by_test true is =
-        let same : get_or touched i d ≡ key = (signed_Decides (get_or touched i d) key).0 is in
-        last_case (int_eq (page_of key) number) (is_among (take i touched) key)
-        ((signed_Decides (page_of key) number).1 (ap page_of (sym same) ∙ own)) ∙ ap set (sym same)
-    by_test false is = first_case (int_eq (page_of key) number) (is_among (take i touched) key)
-
--- and no other page is changed
-pub page_set-other : (by : By) (touched : List ℤ) (op : Op) (held : ℤ → ℤ → Option (List Loaded)) (number other key : ℤ)
-    (i : ℕ) (d : ℤ) → i < length touched → page_of (get_or touched i d) ≡ number → int_eq number other ≡ false
-    → page_set by (take (i + 1) touched) op held other key ≡ page_set by (take i touched) op held other key
-unfolding page_set
-page_set-other by touched op held number other key i d lt own apart =
-    rw (among-more touched i d key lt) (by_test (int_eq (get_or touched i d) key) refl)
-  where
-    set : Option (List Loaded)
-    set = some_of (part_after by key op (or_none (held other key)))
-
-    not_here : (a b c : Bool) → a ≡ false
-        → cond (a && (b || c)) set (held other key) ≡ cond (a && b) set (held other key)
-    not_here true b c e = absurd (false≢true (sym e))
-    not_here false b c e = refl
-
-    first_case : (a b : Bool) → cond (a && (b || false)) set (held other key) ≡ cond (a && b) set (held other key)
-    first_case true true = refl
-    first_case true false = refl
-    first_case false b = refl
-
-    by_test : (b : Bool) → int_eq (get_or touched i d) key ≡ b
-        → cond (int_eq (page_of key) other && (is_among (take i touched) key || b)) set (held other key)
-        ≡ cond (int_eq (page_of key) other && is_among (take i touched) key) set (held other key)
-    by_test true is =
-        let same : get_or touched i d ≡ key = (signed_Decides (get_or touched i d) key).0 is in
-        not_here (int_eq (page_of key) other) (is_among (take i touched) key) true
-        (subst (λ n. int_eq n other ≡ false) (sym own ∙ ap page_of same) apart)
-    by_test false is = first_case (int_eq (page_of key) other) (is_among (take i touched) key)
 
 -- a list that is there unless it is empty
 pub or_none-some_of : {A : Type 0} (items : List A) → or_none (some_of items) ≡ items

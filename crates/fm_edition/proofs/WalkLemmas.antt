@@ -39,6 +39,7 @@ made_taken f made whole item next rest before is sum gives =
     ap (λ l. l ++ rest) (map-append f made (item ∷ []) ∙ ap (λ x. map f made ++ x ∷ []) gives)
     ∙ append_assoc (map f made) (next ∷ []) rest ∙ ap (λ l. map f made ++ l) (sym is) ∙ sum
 
+-- what is made of one more item
 pub filter_map-more : {A B : Type 0} (make : A → Option B) (items : List A) (i : ℕ) (d : A) → i < length items
     → filter_map make (take (i + 1) items) ≡ filter_map make (take i items) ++ option_to_list (make (get_or items i d))
 filter_map-more {A} {B} make items i d lt =
@@ -48,13 +49,6 @@ filter_map-more {A} {B} make items i d lt =
     alone : (o : Option B) → cons_option o [] ≡ option_to_list o
     alone None = refl
     alone (Some x) = refl
-
--- one more item may make one more
-pub one_more : {A B : Type 0} (make : A → Option B) (made : List B) (o : Option B) (items : List A) (i : ℕ) (d : A)
-    → i < length items
-    → made ≡ filter_map make (take i items) → o ≡ make (get_or items i d) → made ++ option_to_list o
-    ≡ filter_map make (take (i + 1) items)
-one_more make made o items i d lt before is = cc (filter_map-more make items i d lt, before, is)
 
 -- what is made of the items so far and of those that are left, with one item more
 pub one_taken : {A B : Type 0} (make : A → Option B) (made : List B) (o : Option B) (item : A) (rest before : List A)

@@ -24,24 +24,7 @@ use Rattle.fm_edition.specs.declared.maps.wanted.Wanted.{Wanted}
 use Rattle.fm_edition.specs.declared.maps.wanted.Wanted.TheVariants.{After, At}
 use Rattle.fm_edition.specs.Held.{Held, IsEdition}
 use Rattle.fm_edition.specs.Kept.{KeptRows}
-
--- a list, unless it is empty
-abbrev pub some_of : {A : Type 0} → List A → Option (List A)
-some_of [] = None
-some_of (item ∷ items) = Some (item ∷ items)
-
--- the items of a list, and none where there is no list
-abbrev pub or_none : {A : Type 0} → Option (List A) → List A
-or_none None = []
-or_none (Some items) = items
-
--- whether an instant is one of these
-abbrev pub is_among : List ℤ → ℤ → Bool
-is_among instants instant = list_any (λ other. int_eq other instant) instants
-
--- a value for each key, but for one key
-abbrev pub updated : {A : Type 0} → ℤ → Option A → (ℤ → Option A) → ℤ → Option A
-updated key value held other = if int_eq key other then value else held other
+pub use Rattle.fm_edition.specs.Page.{found_in, is_among, or_none, some_of, Entries}
 
 -- the codes of the names of some files, each once, rising
 unfoldable pub codes_of : List Loaded → List ℤ
@@ -57,17 +40,9 @@ instants Name files = codes_of files
 unfoldable pub page_of : ℤ → ℤ
 page_of key = int_div_euclid key (pos 1_048_576)
 
--- the files by each instant of a page
-abbrev pub Entries : Type 0
-Entries = BTreeMap ℤ (List Loaded)
-
 -- pages of files by an instant
 abbrev pub Pages : Type 0
 Pages = BTreeMap ℤ Entries
-
--- the files by an instant of a page
-abbrev pub found_in : BTreeMap ℤ (List Loaded) → ℤ → List Loaded
-found_in page key = or_none (get int_cmp page key)
 
 -- what stands at an instant in the page of a number
 abbrev pub in_page : Pages → ℤ → ℤ → Option (List Loaded)

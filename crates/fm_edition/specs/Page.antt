@@ -1,11 +1,42 @@
--- The files by each instant of a page, as they stand in memory.
-use Rattle.std.specs.Prelude.{◌<◌, All, List, [], get_or, length, map, ℤ}
-use Rattle.std.specs.BTreeMap.{BTreeMap}
+-- The files by each instant of a page: what a clause says of them, and as they stand in memory.
+use Rattle.std.specs.Prelude.{◌<◌, ◌∷◌, All, Bool, List, [], Option, None, Some, get_or, if◌then◌else◌, length, map, ℤ}
+use Rattle.std.specs.BTreeMap.{BTreeMap, get}
+use Rattle.std.specs.List.{list_any}
+use Rattle.std.specs.Ordering.{int_cmp, int_eq}
 use Rattle.std_collections.specs.Layout.BTreeMap.{btree_map}
 use mathlib.Core.Logic.{inl}
 use Rattle.fm_model.specs.declared.loaded.Loaded.{Loaded}
+use Rattle.fm_model.specs.declared.op.Op.{Op}
 use Rattle.fm_model.specs.Rising.{Rises}
+use Rattle.fm_list.specs.declared.by.By.{By}
+use Rattle.fm_list.specs.Selected.{part_after}
 use Rattle.fm_edition.specs.declared.maps.page.Entry.{Entry}
+
+-- a list, unless it is empty
+abbrev pub some_of : {A : Type 0} → List A → Option (List A)
+some_of [] = None
+some_of (item ∷ items) = Some (item ∷ items)
+
+-- the items of a list, and none where there is no list
+abbrev pub or_none : {A : Type 0} → Option (List A) → List A
+or_none None = []
+or_none (Some items) = items
+
+-- whether an instant is one of these
+abbrev pub is_among : List ℤ → ℤ → Bool
+is_among instants instant = list_any (λ other. int_eq other instant) instants
+
+-- the files by each instant of a page
+abbrev pub Entries : Type 0
+Entries = BTreeMap ℤ (List Loaded)
+
+-- the files by an instant of a page
+abbrev pub found_in : BTreeMap ℤ (List Loaded) → ℤ → List Loaded
+found_in page key = or_none (get int_cmp page key)
+
+-- what stands at an instant of a page after an operation that touches some of the page's instants
+unfoldable pub turned_at : By → List ℤ → Op → ℤ → Option (List Loaded) → Option (List Loaded)
+turned_at by touched op key held = if is_among touched key then some_of (part_after by key op (or_none held)) else held
 
 -- an instant and its files, which stand at an index of the page's lists
 abbrev pub shown : List (List Loaded) → Entry → ℤ × List Loaded

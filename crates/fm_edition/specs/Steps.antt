@@ -1,13 +1,14 @@
 -- What an operation leaves of some pages, step by step.
-use Rattle.std.specs.Prelude.{◌≡◌, ◌≢◌, ◌<◌, ◌≤◌, ℕ, ℤ, All, List, Option, drop, false, get_or, if◌then◌else◌, length, take}
+use Rattle.std.specs.Prelude.{◌≡◌, ◌≢◌, ◌<◌, ◌≤◌, ℕ, ℤ, List, false, get_or, if◌then◌else◌, length, take}
 use Rattle.std.specs.BTreeMap.{BTreeMap, get}
+use Rattle.std.specs.List.{AllWithin}
 use Rattle.std.specs.Ordering.{int_cmp, int_eq}
 use Rattle.fm_model.specs.declared.loaded.Loaded.{Loaded}
 use Rattle.fm_model.specs.declared.op.Op.{Op}
 use Rattle.fm_list.specs.declared.by.By.{By}
 use Rattle.fm_list.specs.Change.{HasGone}
-use Rattle.fm_list.specs.Selected.{part_after}
-use Rattle.fm_edition.specs.Indexes.{in_page, is_among, or_none, page_of, page_set, some_of, touches, AreOrdered, Pages}
+use Rattle.fm_edition.specs.Indexes.{in_page, or_none, page_of, page_set, touches, AreOrdered, Pages}
+pub use Rattle.fm_edition.specs.Page.{turned_at}
 
 -- what an operation takes out of the files by each instant is among those that went
 abbrev pub HaveGone : List Loaded → Op → Pages → Type 0
@@ -20,15 +21,11 @@ pub record HasPage (number : ℤ) (page : BTreeMap ℤ (List Loaded)) (pages nex
       ≡ if int_eq number other then get int_cmp page key else in_page pages other key
   pub others : (other : ℤ) → int_eq number other ≡ false → get int_cmp next other ≡ get int_cmp pages other
 
--- what stands at an instant of a page after an operation that touches some of the page's instants
-unfoldable pub turned_at : By → List ℤ → Op → ℤ → Option (List Loaded) → Option (List Loaded)
-turned_at by touched op key held = if is_among touched key then some_of (part_after by key op (or_none held)) else held
-
 -- from an index up to another the touched instants are of the page of a number, and that at the other one isn't
 pub record IsPageEnd (touched : List ℤ) (from : ℕ) (number : ℤ) (end : ℕ) : Type 0 where
   pub some : from < end
   pub within : end ≤ length touched
-  pub own : All (λ key. page_of key ≡ number) (drop from (take end touched))
+  pub own : AllWithin (λ key. page_of key ≡ number) touched from end
   pub other : end < length touched → page_of (get_or touched end number) ≢ number
 
 -- an operation is done to some instants, and the pages of no others are changed

@@ -1,10 +1,11 @@
 //! The rows of the best time series, kept page by page, so that many replies share them.
-ghost use Rattle.std.specs.Prelude.{◌≡◌, ◌≢◌, ◌<◌, ◌≤◌, ◌++◌, ◌^◌, ℤ, All, IfOk, OnOk, None, Some, false, if◌then◌else◌, length, take, true};
+ghost use Rattle.std.specs.Prelude.{◌≡◌, ◌≢◌, ◌<◌, ◌≤◌, ◌++◌, ◌^◌, ℤ, All, IfOk, IsTrue, OnOk, None, Some, false, if◌then◌else◌, length, take, true};
 ghost use Rattle.std.specs.BTreeMap as tree;
 ghost use Rattle.std.specs.List.{filter_map};
 ghost use Rattle.std.specs.Ordering.{int_cmp, int_eq};
 ghost use Rattle.fm_edition.specs.Indexes as spec;
 ghost use Rattle.fm_edition.specs.Latest as walk;
+ghost use Rattle.fm_edition.specs.Least.{KeepLeast};
 
 use crate::maps::early::{count_early, push_early, push_kept};
 use crate::maps::keeping::push_keeping;
@@ -204,7 +205,20 @@ fn early_rows(
     }
 }
 
-// The rows of all pages, also with a least offset. Without one they are those that are kept, and no run is looked up.
+// Whether it is seen at once that the kept rows of each page keep the least offset.
+fn all_keep(best: &RowPages, least: Option<i64>) -> bool
+    ensures { IsTrue result → KeepLeast least (spec.kept_rows best.now.entries) }
+{
+    for (_, kept) in best {
+        if !kept.get().keeps(least) {
+            return false;
+        }
+    }
+    true
+}
+
+// The rows of all pages, also with a least offset. Where it is seen at once that all kept rows keep it, they are shared,
+// and no run is listed.
 pub(crate) fn best_rows(
     alloc: Global,
     by_run: &Pages,
@@ -216,10 +230,10 @@ pub(crate) fn best_rows(
     requires best { spec.AreBest pages.now best.now }
     ensures { IfOk result (λ rows. rows ≡ filter_map (spec.best_of_entry least) (spec.entries_of pages.now)) }
 {
-    match least {
-        None => kept_rows(alloc, best),
-        Some(_) => early_rows(alloc, by_run, pages, best, least),
+    if all_keep(best, least) {
+        return kept_rows(alloc, best);
     }
+    early_rows(alloc, by_run, pages, best, least)
 }
 
 // How many rows all pages have, also with a least offset.

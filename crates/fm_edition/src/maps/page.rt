@@ -1,5 +1,5 @@
 //! The files by each instant of a page, each list of files once.
-ghost use Rattle.std.specs.Prelude.{◌≡◌, get_or, [], IfOk, List as Items};
+ghost use Rattle.std.specs.Prelude.{◌≡◌, ◌++◌, get_or, [], Contains, IfOk, IfSome, List as Items};
 ghost use Rattle.std.specs.BTreeMap as tree;
 ghost use Rattle.std.specs.Option.{option_map};
 ghost use Rattle.std.specs.Ordering.{int_cmp};
@@ -37,7 +37,8 @@ pub(crate) struct Page {
 // The entry of an instant.
 fn entry_of(entries: &[Entry], instant: i64) -> Option<Entry>
     requires { Rises (spec.instants_of entries.now) }
-    ensures { (lists : Items (Items File)) → tree.get int_cmp (spec.map_of lists entries.now) instant
+    ensures one { IfSome result (Contains entries.now) }
+    ensures files { (lists : Items (Items File)) → tree.get int_cmp (spec.map_of lists entries.now) instant
         ≡ option_map (λ (entry : Entry). get_or lists entry.list []) result }
 {
     match entries.binary_search_by_key(&instant, |entry| entry.instant) {
@@ -60,10 +61,14 @@ fn instants_with(alloc: Global, entries: &[Entry], others: &[i64]) -> Result<Lis
 }
 
 impl Model for Page {
-    ghost use Rattle.fm_edition.specs.Indexes.{Entries};
-    ghost use Rattle.fm_edition.specs.Page.{map_of, IsPage};
+    ghost use Rattle.std.specs.Coded.{coded_list, coded_ℤ};
+    ghost use Rattle.std_collections.specs.Layout.BTreeMap.{btree_map_code};
+    ghost use Rattle.fm_model.specs.contracts.loaded.Loaded as loaded;
+    ghost use Rattle.fm_edition.specs.Page.{map_of, Entries, IsPage};
 
     ghost Value = { Entries };
+
+    ghost coded = { btree_map_code coded_ℤ (coded_list loaded.the_row.coded) };
 
     ghost view = { λ page. map_of page.lists page.entries };
 
@@ -78,8 +83,7 @@ impl Page {
     ghost use Rattle.fm_model.specs.Rising.{Rises};
     ghost use Rattle.fm_list.specs.Change.{added, HasGone};
     ghost use Rattle.fm_list.specs.Selected.{AreOwn};
-    ghost use Rattle.fm_edition.specs.Indexes as spec;
-    ghost use Rattle.fm_edition.specs.Steps.{turned_at};
+    ghost use Rattle.fm_edition.specs.Page as spec;
 
     // A page without instants.
     pub(crate) fn new(alloc: Global) -> Page
@@ -131,7 +135,7 @@ impl Page {
             self.now.entries }
         ensures ordered { IfOk result (tree.IsOrdered int_cmp) }
         ensures set { IfOk result (λ page. (key : ℤ) → tree.get int_cmp page key
-            ≡ turned_at change.now.by touched.now change.now.op.now key (tree.get int_cmp self.now key)) }
+            ≡ spec.turned_at change.now.by touched.now change.now.op.now key (tree.get int_cmp self.now key)) }
     {
         let instants = instants_with(alloc, self.entries.as_slice(), touched)?;
         let mut next = Turning::new(alloc, self.lists.as_slice())?;

@@ -13,11 +13,11 @@ returns-in-None c =
     let none = simp to_z-of_z at (c.in-None.ensures.none refl) in
     rw (c.in-Some.is, none) (sym (append-nil c.args.rows.now))
 
-pub returns-in_ok-share-in-Some-cell_of : goal.returns-in_ok-share-in-Some-cell_of
+pub returns-in_ok-share-in-Some-cell_near : goal.returns-in_ok-share-in-Some-cell_near
 unfolding row_at
-returns-in_ok-share-in-Some-cell_of c =
+returns-in_ok-share-in-Some-cell_near c =
     let a : SFits w64 c.args.valid = search rules in
     let b : SFits w64 c.in-Some.run' = search rules in
-    let found = simp to_z-of_z at c.in-Some-cell_of.ensures.found in
+    let found = simp to_z-of_z at c.in-Some-cell_near.ensures.found in
     let pushed = simp to_z-of_z at c.push.ensures.ok in
-    rw (c.in-Some.is, found, ← c.in_ok-share-in-Some-cell_of.ensures) pushed
+    rw (c.in-Some.is, found, ← c.in_ok-share-in-Some-cell_near.ensures) pushed

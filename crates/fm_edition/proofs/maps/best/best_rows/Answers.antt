@@ -1,13 +1,15 @@
--- Without a least offset the rows are those that are kept.
-use Rattle.std.proofs.Common.{◌≡◌, IfOk, List, ap, subst, sym, ◌∙◌}
-use Rattle.std.specs.List.{filter_map}
+-- Where the kept rows keep the least offset, they are the rows.
+use Rattle.std.proofs.Common.{◌≡◌, IfOk, List, subst, ◌∙◌}
 use Rattle.fm_model.specs.declared.row.Row.{Row}
-use Rattle.fm_edition.specs.Indexes.{best_of_entry, entries_of}
+use Rattle.fm_edition.specs.Indexes.{entries_of}
+use Rattle.fm_edition.specs.Least.{KeepLeast}
 use Rattle.fm_edition.proofs.BestLemmas.{kept-from_pages}
+use Rattle.fm_edition.proofs.LeastLemmas.{from_kept}
 use Rattle.fm_edition.proofs.maps.best.best_rows.Goals as goal
 
-pub returns-in-None : goal.returns-in-None
-returns-in-None c =
-    let same = kept-from_pages c.args.pages.now c.args.best.now c.requires.files.times.ordered c.requires.best
-    ∙ ap (λ least. filter_map (best_of_entry least) (entries_of c.args.pages.now)) (sym c.in-None.is) in
-    subst (λ (rows : List Row). IfOk c.kept_rows.result (λ made. made ≡ rows)) same c.kept_rows.ensures
+pub returns-then-all_keep : goal.returns-then-all_keep
+returns-then-all_keep c =
+    let kept = kept-from_pages c.args.pages.now c.args.best.now c.requires.files.times.ordered c.requires.best in
+    let same = from_kept c.args.least (entries_of c.args.pages.now)
+    (subst (KeepLeast c.args.least) kept (c.all_keep.ensures c.if-all_keep.true)) in
+    subst (λ (rows : List Row). IfOk c.kept_rows.result (λ made. made ≡ rows)) (kept ∙ same) c.kept_rows.ensures

@@ -11,7 +11,7 @@ use Rattle.fm_edition.proofs.maps.best.count_from.Goals as goal
 pub returns-then-keeps : goal.returns-then-keeps
 returns-then-keeps c = λ page is timed.
     let rows_are = ap (λ (kept : KeptRows). kept.rows) is in
-    let same = from_kept c.args.least page
+    let same = from_kept c.args.least page.entries
     (subst (KeepLeast c.args.least) rows_are (c.keeps.ensures c.if-keeps.true)) in
     c.len.ensures ∙ ap length (rows_are ∙ same)
 

@@ -14,7 +14,7 @@ use Rattle.fm_edition.proofs.maps.best.push_from.Goals as goal
 pub returns-then-keeps-clause-made : goal.returns-then-keeps-clause-made
 returns-then-keeps-clause-made c =
     let rows_are = ap (λ (kept : KeptRows). kept.rows) c.requires.kept in
-    let same = from_kept c.args.least c.args.page.now
+    let same = from_kept c.args.least c.args.page.now.entries
     (subst (KeepLeast c.args.least) rows_are (c.keeps.ensures c.if-keeps.true)) in
     subst (λ (rows : List Row). OnOk c.push.result (c.push.new.self ≡ c.args.rows.now ++ rows))
     (c.in_ok-share.ensures ∙ rows_are ∙ same) c.push.ensures.ok

@@ -15,14 +15,14 @@ pub push_best-requires : goal.push_best-requires
 push_best-requires c =
     let a : SFits w64 c.args.valid = search rules in
     simp to_z-of_z (subst (λ (files : List Loaded). IsTimed (c.args.valid, files))
-    (sym (simp to_z-of_z at c.files_in.ensures)) c.requires.timed)
+    (sym (simp to_z-of_z at c.files.ensures)) c.requires.timed)
 
 pub returns-clause-made : goal.returns-clause-made
 returns-clause-made c =
     let a : SFits w64 c.args.valid = search rules in
     let made = simp to_z-of_z at c.push_best.ensures in
     subst (λ (files : List Loaded). OnOk c.push_best.result (c.push_best.new.rows ≡ c.args.rows.now
-    ++ option_to_list (best_row files c.args.least c.args.valid))) (simp to_z-of_z at c.files_in.ensures) made
+    ++ option_to_list (best_row files c.args.least c.args.valid))) (simp to_z-of_z at c.files.ensures) made
 
 pub returns-in-Some-clause-made : goal.returns-in-Some-clause-made
 returns-in-Some-clause-made c =

@@ -1,5 +1,5 @@
 -- One more row.
-use Rattle.std.proofs.Common.{◌≡◌, List, ◌++◌, rules, ap, sym, subst, ◌∙◌, SFits, w64, refl}
+use Rattle.std.proofs.Common.{◌+◌, List, ◌++◌, drop, rules, ap, sym, subst, SFits, w64}
 use Rattle.std.specs.List.{filter_map}
 use Rattle.std.proofs.lemmas.Int.{to_z-of_z}
 use Rattle.fm_model.specs.declared.loaded.Loaded.{Loaded}
@@ -8,28 +8,25 @@ use Rattle.fm_edition.proofs.WalkLemmas.{all_first, all_rest, one_taken}
 use Rattle.fm_edition.proofs.maps.walk.push_page.Goals as goal
 
 pub push_wanted-requires : goal.push_wanted-requires
-push_wanted-requires c = subst (λ (files : List Loaded). IsSound (c.in-Some.key.now, files))
-    (sym (c.all.ensures ∙ c.get.ensures))
-    (all_first IsSound (c.in-Some.key.now, c.in-Some.files.now) c.next.new.self c.loop-key.key-iterator
-    c.in-Some.ensures.steps c.loop-key.invariant.sound)
+push_wanted-requires c =
+    let page = c.args.page.now.entries in
+    subst (λ (files : List Loaded). IsSound (c.entry-key.result.0, files)) (sym c.all.ensures)
+    (all_first IsSound (c.entry-key.result.0, c.entry-key.result.1.now) (drop (c.loop-at.at + 1) page) (drop c.loop-at.at page)
+    c.entry-key.ensures c.loop-at.invariant.sound)
 
-pub loop-key-preserved : goal.loop-key-preserved
-loop-key-preserved c =
-    let a : SFits w64 c.in-Some.key.now = search rules in
+pub loop-at-preserved : goal.loop-at-preserved
+loop-at-preserved c =
+    let a : SFits w64 c.entry-key.result.0 = search rules in
     let make = entry_row c.args.wanted in
+    let page = c.args.page.now.entries in
+    let here = drop c.loop-at.at page in
+    let rest = drop (c.loop-at.at + 1) page in
     let pushed = simp to_z-of_z at c.in_ok-push_wanted.ensures in
-    let own = ap (λ held. make (c.in-Some.key.now, held)) (c.all.ensures ∙ c.get.ensures) in
+    let own = ap (λ held. make (c.entry-key.result.0, held)) c.all.ensures in
     record {
-      sound = all_rest IsSound (c.in-Some.key.now, c.in-Some.files.now) c.next.new.self
-          c.loop-key.key-iterator c.in-Some.ensures.steps c.loop-key.invariant.sound;
-      made = rw pushed (one_taken make c.loop-key.rows (make (c.in-Some.key.now, c.all.result))
-          (c.in-Some.key.now, c.in-Some.files.now) c.next.new.self c.loop-key.key-iterator
-          (c.args.rows.now ++ filter_map make c.args.page.now.entries) c.in-Some.ensures.steps
-          c.loop-key.invariant.made own);
+      sound = all_rest IsSound (c.entry-key.result.0, c.entry-key.result.1.now) rest here c.entry-key.ensures
+          c.loop-at.invariant.sound;
+      made = rw pushed (one_taken make c.loop-at.rows (make (c.entry-key.result.0, c.all.result))
+          (c.entry-key.result.0, c.entry-key.result.1.now) rest here (c.args.rows.now ++ filter_map make page) c.entry-key.ensures
+          c.loop-at.invariant.made own);
     }
-
-pub loop-key-init : goal.loop-key-init
-loop-key-init c =
-    let is : c.into_iter-key-iterator.result ≡ c.args.page.now.entries =
-    c.into_iter-key-iterator.ensures.into_iter_gives.0 in
-    record { sound = rw is c.requires; made = rw is refl }
