@@ -8,7 +8,7 @@ use Rattle.fm_model.specs.declared.op.Op.{Op}
 use Rattle.fm_list.specs.declared.by.By.{By}
 use Rattle.fm_list.specs.Change.{HasGone}
 use Rattle.fm_edition.specs.Indexes.{in_page, or_none, page_of, page_set, touches, AreOrdered, Pages}
-pub use Rattle.fm_edition.specs.Page.{turned_at}
+unfoldable pub use Rattle.fm_edition.specs.Page.{turned_at}
 
 -- what an operation takes out of the files by each instant is among those that went
 abbrev pub HaveGone : List Loaded → Op → Pages → Type 0

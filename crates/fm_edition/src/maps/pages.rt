@@ -53,8 +53,8 @@ fn set_page(alloc: Global, pages: &mut Pages, number: i64, page: Page) -> Result
     Ok(())
 }
 
-/// An operation, the kind of instant that its files are looked up by, the files that it takes out and adds, the instants
-/// that it touches, and those of the file that it adds.
+/// An operation, the kind of instant that its files are looked up by, the files that it takes out and adds, the
+/// instants that it touches, and those of the file that it adds.
 #[derive(Clone, Copy)]
 pub(crate) struct Change<'a> {
     pub by: By,
