@@ -1,5 +1,5 @@
 -- An operation on the pages of some touched instants, page by page.
-use Rattle.std.proofs.Common.{◌≡◌, ◌≢◌, ℕ, ◌+◌, ◌-◌, ◌<◌, ◌≤◌, ◌<ℤ◌, ◌≤ℤ◌, Bool, true, false, cond, List, [], ◌++◌, length, get_or, take, take-add, drop, Option, Some, ℤ, pos, refl, sym, ap, subst, ◌∙◌, inl, inr, arith}
+use Rattle.std.proofs.Common.{◌≡◌, ◌≢◌, ℕ, ◌+◌, ◌-◌, ◌<◌, ◌≤◌, ◌<ℤ◌, ◌≤ℤ◌, Bool, true, false, cond, List, length, get_or, take, take-add, drop, Option, Some, ℤ, pos, refl, sym, ap, subst, ◌∙◌, inl, inr, arith}
 use Rattle.std.specs.Prelude.{◌&&◌, ◌||◌, option_and_then, All}
 use Rattle.std.specs.BTreeMap.{get, values, IsOrdered}
 use Rattle.std.specs.Cmp.{signed_Decides}
@@ -7,7 +7,7 @@ use Rattle.std.specs.List.{slice_range}
 use Rattle.std.specs.Ordering.{int_cmp, int_eq}
 use Rattle.std.specs.declared.cmp.Ordering.{Ordering}
 use Rattle.std.specs.declared.cmp.Ordering.TheVariants.{Less, Equal, Greater}
-use Rattle.std.proofs.lemmas.Bool.{both_ways, cases_order, false≢true}
+use Rattle.std.proofs.lemmas.Bool.{cases_order, false≢true}
 use Rattle.std.proofs.lemmas.Cmp.{int_ranked}
 use Rattle.std.proofs.lemmas.Int.{ints}
 use Rattle.std.proofs.lemmas.List.{get_or_default, get_or-drop, get_or-take, length-take}
@@ -21,8 +21,9 @@ use Rattle.fm_model.proofs.Members.{Contains-from_in, Each-in, In-map, each_from
 use Rattle.fm_list.specs.declared.by.By.{By}
 use Rattle.fm_list.specs.Change.{HasGone}
 use Rattle.fm_list.specs.Selected.{part_after}
-use Rattle.fm_edition.specs.Indexes.{in_page, is_among, or_none, page_of, page_set, some_of, touches, AreOrdered, Entries, Pages}
-use Rattle.fm_edition.specs.Steps.{turned_at, AreDone, HasPage, HaveGone, IsPageEnd}
+use Rattle.fm_edition.specs.Indexes.{in_page, is_among, or_none, page_of, page_set, some_of, AreOrdered, Entries, Pages}
+use Rattle.fm_edition.specs.Page.{turned_at}
+use Rattle.fm_edition.specs.Steps.{AreDone, HasPage, HaveGone, IsPageEnd}
 use Rattle.fm_edition.proofs.BestLemmas.{touches-less}
 use Rattle.fm_edition.proofs.EntryLemmas.{entry_found, found_entry}
 use Rattle.fm_edition.proofs.KeyLemmas.{page_rises}

@@ -7,6 +7,7 @@ ghost use Rattle.fm_model.specs.Rising.{Rises};
 ghost use Rattle.fm_list.specs.Change.{added};
 ghost use Rattle.fm_list.specs.Selected.{AreOwn};
 ghost use Rattle.fm_edition.specs.Indexes as spec;
+ghost use Rattle.fm_edition.specs.Page.{turned_at};
 ghost use Rattle.fm_edition.specs.Steps as steps;
 
 use crate::maps::files::Files;
@@ -93,7 +94,7 @@ fn page_after(
     requires ordered { spec.AreOrdered pages.now }
     ensures ordered { IfOk result (tree.IsOrdered int_cmp) }
     ensures set { IfOk result (λ page. (key : ℤ) → tree.get int_cmp page key
-        ≡ steps.turned_at change.now.by touched.now change.now.op.now key (spec.in_page pages.now number key)) }
+        ≡ turned_at change.now.by touched.now change.now.op.now key (spec.in_page pages.now number key)) }
 {
     match pages.get(&number) {
         Some(page) => page.get().after(alloc, touched, change),
