@@ -22,5 +22,6 @@ pub mod RowLemmas
 pub mod RunLemmas
 pub mod SetLemmas
 pub mod ShownLemmas
+pub mod StepLemmas
 pub mod TallyLemmas
 pub mod WalkLemmas

@@ -1,5 +1,5 @@
 -- A page as an ordered map, and the entry that a search finds among the instants.
-use Rattle.std.proofs.Common.{◌≡◌, ℕ, ◌+◌, ◌<◌, ◌≤◌, ◌<ℤ◌, Bool, true, false, List, [], ◌∷◌, length, get_or, map, drop, Option, None, Some, ℤ, pos, refl, sym, ap, subst, ◌∙◌, arith}
+use Rattle.std.proofs.Common.{◌≡◌, ℕ, ◌+◌, ◌<◌, ◌≤◌, ◌<ℤ◌, Bool, true, false, List, [], ◌∷◌, length, get_or, map, drop, None, Some, ℤ, pos, refl, sym, ap, subst, ◌∙◌, arith}
 use Rattle.std.specs.Prelude.{◌||◌}
 use Rattle.std.specs.BTreeMap.{get, IsOrdered}
 use Rattle.std.specs.Cmp.{signed_Decides}
@@ -36,7 +36,8 @@ less a b lt = by_cmp (int_cmp a b) refl
         let more : b <ℤ a = int_ranked a b Greater (sym is) in
         absurd (omega (arith, ints, lt, more))
 
-keys-shown : (lists : List (List Loaded)) (entries : List Entry)
+-- the keys of a page are its instants
+pub keys-shown : (lists : List (List Loaded)) (entries : List Entry)
     → keys_of (map (shown lists) entries) ≡ instants_of entries
 keys-shown lists [] = refl
 keys-shown lists (entry ∷ entries) = ap (λ l. entry.instant ∷ l) (keys-shown lists entries)
@@ -104,8 +105,10 @@ pub shown_nowhere : (lists : List (List Loaded)) (entries : List Entry) (key : �
     → get int_cmp (map_of lists entries) key ≡ None
 shown_nowhere lists entries key index rises bound parted = none_by lists entries key
     (among_nowhere (instants_of entries) index key rises (λ falls.
-    let parts = parted (λ i j d le within. rw (← instant_at entries i d (omega (arith, le, within)),
-    ← instant_at entries j d within) (falls i j d.instant le (omega (arith, within, long)))) in (
+    let parts = parted (λ i j d le within. rw (
+      ← instant_at entries i d (omega (arith, le, within)),
+      ← instant_at entries j d within,
+    ) (falls i j d.instant le (omega (arith, within, long)))) in (
       λ k d from below. subst (λ other. int_cmp other key ≡ Less)
           (sym (instant_at entries k (entry_with d) (omega (arith, below, bound))))
           (parts.0 k (entry_with d) from below),
