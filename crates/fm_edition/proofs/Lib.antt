@@ -22,4 +22,6 @@ pub mod RowLemmas
 pub mod RunLemmas
 pub mod SetLemmas
 pub mod TallyLemmas
+pub mod TurnedLemmas
+pub mod TurningLemmas
 pub mod WalkLemmas
