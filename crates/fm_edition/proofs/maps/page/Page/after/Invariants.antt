@@ -11,5 +11,5 @@ invariant-loop-instant l = record {
   known : IsTurning l.change.op.now l.turning;
   listed : All (IsListed l.turning.lists) l.entries;
   shown : map (shown l.turning.lists) l.entries
-      ≡ turned_entries l.change.by l.touched l.change.op.now l.self (take l.instant-index l.instants);
+      ≡ turned_entries l.change.by l.touched l.change.op.now l.self (take l.instant-index l.instant-items);
 }
