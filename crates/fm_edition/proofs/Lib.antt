@@ -21,6 +21,7 @@ pub mod PieceLemmas
 pub mod RowLemmas
 pub mod RunLemmas
 pub mod SetLemmas
+pub mod ShownLemmas
 pub mod TallyLemmas
 pub mod TurnedLemmas
 pub mod TurningLemmas

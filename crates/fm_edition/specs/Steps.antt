@@ -1,6 +1,7 @@
 -- What an operation leaves of some pages, step by step.
-use Rattle.std.specs.Prelude.{◌≡◌, ◌≢◌, ◌<◌, ◌≤◌, ℕ, ℤ, All, List, drop, false, get_or, if◌then◌else◌, length, take}
+use Rattle.std.specs.Prelude.{◌≡◌, ◌≢◌, ◌<◌, ◌≤◌, ℕ, ℤ, List, false, get_or, if◌then◌else◌, length, take}
 use Rattle.std.specs.BTreeMap.{BTreeMap, get}
+use Rattle.std.specs.List.{AllWithin}
 use Rattle.std.specs.Ordering.{int_cmp, int_eq}
 use Rattle.fm_model.specs.declared.loaded.Loaded.{Loaded}
 use Rattle.fm_model.specs.declared.op.Op.{Op}
@@ -24,7 +25,7 @@ pub record HasPage (number : ℤ) (page : BTreeMap ℤ (List Loaded)) (pages nex
 pub record IsPageEnd (touched : List ℤ) (from : ℕ) (number : ℤ) (end : ℕ) : Type 0 where
   pub some : from < end
   pub within : end ≤ length touched
-  pub own : All (λ key. page_of key ≡ number) (drop from (take end touched))
+  pub own : AllWithin (λ key. page_of key ≡ number) touched from end
   pub other : end < length touched → page_of (get_or touched end number) ≢ number
 
 -- an operation is done to some instants, and the pages of no others are changed

@@ -1,5 +1,5 @@
 //! The files by each instant of a page, each list of files once.
-ghost use Rattle.std.specs.Prelude.{◌≡◌, get_or, [], IfOk, List as Items};
+ghost use Rattle.std.specs.Prelude.{◌≡◌, ◌++◌, get_or, [], Contains, IfOk, IfSome, List as Items};
 ghost use Rattle.std.specs.BTreeMap as tree;
 ghost use Rattle.std.specs.Option.{option_map};
 ghost use Rattle.std.specs.Ordering.{int_cmp};
@@ -37,7 +37,8 @@ pub(crate) struct Page {
 // The entry of an instant.
 fn entry_of(entries: &[Entry], instant: i64) -> Option<Entry>
     requires { Rises (spec.instants_of entries.now) }
-    ensures { (lists : Items (Items File)) → tree.get int_cmp (spec.map_of lists entries.now) instant
+    ensures one { IfSome result (Contains entries.now) }
+    ensures files { (lists : Items (Items File)) → tree.get int_cmp (spec.map_of lists entries.now) instant
         ≡ option_map (λ (entry : Entry). get_or lists entry.list []) result }
 {
     match entries.binary_search_by_key(&instant, |entry| entry.instant) {

@@ -3,8 +3,7 @@ ghost use Rattle.std.specs.Prelude.{◌≡◌, ◌++◌, All, IfOk, List as Item
 ghost use Rattle.std.specs.List.{list_any};
 ghost use Rattle.fm_model.specs.declared.loaded.Loaded.{Loaded as File};
 ghost use Rattle.fm_model.specs.Collection.{after_op, holds_older};
-ghost use Rattle.fm_list.specs.Change as change;
-ghost use Rattle.fm_list.specs.Change.{HasGone};
+ghost use Rattle.fm_list.specs.Change.{keeps, HasGone};
 ghost use Rattle.fm_edition.specs.Pieces as spec;
 
 use crate::maps::files::{Files, Piece};
@@ -29,7 +28,7 @@ pub(crate) struct Roll {
 // Whether an operation may take files out of some, where `went` has all that it takes out of them.
 fn may_lose(files: &[Placed], went: &[Placed], op: &Op) -> bool
     requires { HasGone went.now op.now files.now }
-    ensures { result ≡ false → filter (change.keeps op.now) files.now ≡ files.now }
+    ensures { result ≡ false → filter (keeps op.now) files.now ≡ files.now }
 {
     match op {
         Op::Put(_) => shares_run(files, went),
@@ -72,7 +71,7 @@ fn push_kept(
 ) -> Result<(), NoMemory>
     requires { HasGone went.now op.now piece.now }
     ensures { OnOk result (spec.joined pieces.new
-        ≡ spec.joined pieces.old ++ filter (change.keeps op.now) piece.now) }
+        ≡ spec.joined pieces.old ++ filter (keeps op.now) piece.now) }
 {
     let files = piece.get().as_slice();
     if may_lose(files, went, op) {
@@ -90,7 +89,7 @@ fn kept_pieces(
     op: &Op,
 ) -> Result<List<Piece>, NoMemory>
     requires { All (HasGone went.now op.now) pieces.now }
-    ensures { IfOk result (λ next. spec.joined next ≡ filter (change.keeps op.now) (spec.joined pieces.now)) }
+    ensures { IfOk result (λ next. spec.joined next ≡ filter (keeps op.now) (spec.joined pieces.now)) }
 {
     let items = Vec::with_capacity(alloc, pieces.len())?;
     let mut next = List { items };
@@ -150,7 +149,7 @@ pub(crate) fn roll_after(
     added: &[Placed],
 ) -> Result<Roll, NoMemory>
     requires { HasGone change.now.went.now change.now.op.now files.now }
-    ensures { IfOk result (λ next. next ≡ filter (change.keeps change.now.op.now) files.now ++ added.now) }
+    ensures { IfOk result (λ next. next ≡ filter (keeps change.now.op.now) files.now ++ added.now) }
 {
     let pieces = kept_pieces(alloc, files.pieces, change.went, change.op)?;
     let last = part_after(alloc, files.last, change.went, change.op, added)?;

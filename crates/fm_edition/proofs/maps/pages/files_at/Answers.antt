@@ -17,5 +17,5 @@ returns-in-Some c =
     let number : c.page_of.result ≡ page_of key = simp to_z-of_z at c.page_of.ensures in
     let found : get int_cmp c.args.pages.now (page_of key) ≡ Some c.in-Some.page.now =
     ap (get int_cmp c.args.pages.now) (sym number) ∙ sym value ∙ ap option_copied c.in-Some.is in
-    simp to_z-of_z at c.files_in.ensures ∙ ap (λ (m : Entries). found_in m key) c.get-in-Some.ensures
+    simp to_z-of_z at c.files.ensures ∙ ap (λ (m : Entries). found_in m key) c.get-in-Some.ensures
     ∙ ap (λ o. or_none (option_and_then (λ (m : Entries). get int_cmp m key) o)) (sym found)

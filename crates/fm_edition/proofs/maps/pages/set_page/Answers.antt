@@ -9,8 +9,8 @@ use Rattle.fm_edition.specs.Indexes.{in_page}
 use Rattle.fm_edition.proofs.SetLemmas.{in_none, in_page-set}
 use Rattle.fm_edition.proofs.maps.pages.set_page.Goals as goal
 
-pub returns-then-is_empty : goal.returns-then-is_empty
-returns-then-is_empty c =
+pub returns-then-len-eq0 : goal.returns-then-len-eq0
+returns-then-len-eq0 c =
     let a : SFits w64 c.args.number = search rules in
     let pages = c.args.pages.now in
     let number = c.args.number in
@@ -26,7 +26,7 @@ returns-then-is_empty c =
       };
       set = λ other key. in_page-set pages c.remove.new.self number none set other key
           ∙ ap (λ (held : Option (List Loaded)). cond (int_eq number other) held (in_page pages other key))
-          (sym (in_none c.args.page (c.is_empty.ensures.0 c.if-is_empty.true) key));
+          (sym (in_none c.args.page (sym c.len.ensures ∙ c.if-len-eq0.true) key));
       others = λ other apart. set other ∙ ap (λ b. cond b none (get int_cmp pages other)) apart;
     }
 
