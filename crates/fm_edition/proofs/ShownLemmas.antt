@@ -36,7 +36,7 @@ less a b lt = by_cmp (int_cmp a b) refl
         let more : b <ℤ a = int_ranked a b Greater (sym is) in
         absurd (omega (arith, ints, lt, more))
 
-keys-shown : (lists : List (List Loaded)) (entries : List Entry)
+pub keys-shown : (lists : List (List Loaded)) (entries : List Entry)
     → keys_of (map (shown lists) entries) ≡ instants_of entries
 keys-shown lists [] = refl
 keys-shown lists (entry ∷ entries) = ap (λ l. entry.instant ∷ l) (keys-shown lists entries)
@@ -104,8 +104,10 @@ pub shown_nowhere : (lists : List (List Loaded)) (entries : List Entry) (key : �
     → get int_cmp (map_of lists entries) key ≡ None
 shown_nowhere lists entries key index rises bound parted = none_by lists entries key
     (among_nowhere (instants_of entries) index key rises (λ falls.
-    let parts = parted (λ i j d le within. rw (← instant_at entries i d (omega (arith, le, within)),
-    ← instant_at entries j d within) (falls i j d.instant le (omega (arith, within, long)))) in (
+    let parts = parted (λ i j d le within. rw (
+      ← instant_at entries i d (omega (arith, le, within)),
+      ← instant_at entries j d within,
+    ) (falls i j d.instant le (omega (arith, within, long)))) in (
       λ k d from below. subst (λ other. int_cmp other key ≡ Less)
           (sym (instant_at entries k (entry_with d) (omega (arith, below, bound))))
           (parts.0 k (entry_with d) from below),

@@ -71,9 +71,21 @@ impl Spots {
     {
         let Spots { left, taken, added } = self;
         match turn {
-            Turn::Leaves => Spots { left: spot, taken, added },
-            Turn::Takes => Spots { left, taken: spot, added },
-            Turn::Adds => Spots { left, taken, added: spot },
+            Turn::Leaves => Spots {
+                left: spot,
+                taken,
+                added,
+            },
+            Turn::Takes => Spots {
+                left,
+                taken: spot,
+                added,
+            },
+            Turn::Adds => Spots {
+                left,
+                taken,
+                added: spot,
+            },
         }
     }
 }
