@@ -12,11 +12,11 @@ use Rattle.fm_list.specs.declared.by.By.{By}
 use Rattle.fm_list.specs.Change.{added, keeps}
 use Rattle.fm_list.specs.Selected.{part_after, selects}
 use Rattle.fm_edition.specs.declared.maps.page.Entry.{Entry}
-use Rattle.fm_edition.specs.declared.maps.page.turning.Spot.{Spot}
-use Rattle.fm_edition.specs.declared.maps.page.turning.Spot.TheVariants.{Unknown, Known}
-use Rattle.fm_edition.specs.declared.maps.page.turning.Spots.{Spots}
-use Rattle.fm_edition.specs.declared.maps.page.turning.Turn.{Turn}
-use Rattle.fm_edition.specs.declared.maps.page.turning.Turn.TheVariants.{Leaves, Takes, Adds}
+use Rattle.fm_edition.specs.declared.maps.page.turning.spots.Spot.{Spot}
+use Rattle.fm_edition.specs.declared.maps.page.turning.spots.Spot.TheVariants.{Unknown, Known}
+use Rattle.fm_edition.specs.declared.maps.page.turning.spots.Spots.{Spots}
+use Rattle.fm_edition.specs.declared.maps.page.turning.turn.Turn.{Turn}
+use Rattle.fm_edition.specs.declared.maps.page.turning.turn.Turn.TheVariants.{Leaves, Takes, Adds}
 use Rattle.fm_edition.specs.Page.{is_among, or_none, shown, some_of, turned_at, IsListed}
 use Rattle.fm_edition.specs.Turning.{known, no_spots, spot_of, turned, with_spot, IsSpot, StandAt, Stay}
 

@@ -9,11 +9,11 @@ use Rattle.fm_model.specs.declared.op.Op.{Op}
 use Rattle.fm_list.specs.declared.by.By.{By}
 use Rattle.fm_list.specs.Change.{added, keeps}
 use Rattle.fm_edition.specs.declared.maps.page.Entry.{Entry}
-use Rattle.fm_edition.specs.declared.maps.page.turning.Spot.{Spot}
-use Rattle.fm_edition.specs.declared.maps.page.turning.Spot.TheVariants.{Unknown, Known}
-use Rattle.fm_edition.specs.declared.maps.page.turning.Spots.{Spots}
-use Rattle.fm_edition.specs.declared.maps.page.turning.Turn.{Turn}
-use Rattle.fm_edition.specs.declared.maps.page.turning.Turn.TheVariants.{Leaves, Takes, Adds}
+use Rattle.fm_edition.specs.declared.maps.page.turning.spots.Spot.{Spot}
+use Rattle.fm_edition.specs.declared.maps.page.turning.spots.Spot.TheVariants.{Unknown, Known}
+use Rattle.fm_edition.specs.declared.maps.page.turning.spots.Spots.{Spots}
+use Rattle.fm_edition.specs.declared.maps.page.turning.turn.Turn.{Turn}
+use Rattle.fm_edition.specs.declared.maps.page.turning.turn.Turn.TheVariants.{Leaves, Takes, Adds}
 use Rattle.fm_edition.specs.declared.maps.page.turning.Turning.{Turning}
 use Rattle.fm_edition.specs.Page.{or_none, some_of, turned_at}
 
@@ -29,7 +29,8 @@ files_of lists entry = option_map (λ (own : Entry). get_or lists own.list []) e
 
 -- an instant with its files after an operation, where there are any
 abbrev pub turned_entry : By → List ℤ → Op → ℤ → Option (List Loaded) → Option (ℤ × List Loaded)
-turned_entry by touched op key held = option_map (λ (files : List Loaded). (key, files)) (turned_at by touched op key held)
+turned_entry by touched op key held =
+    option_map (λ (files : List Loaded). (key, files)) (turned_at by touched op key held)
 
 -- some instants of a page with their files after an operation
 abbrev pub turned_entries : By → List ℤ → Op → BTreeMap ℤ (List Loaded) → List ℤ → List (ℤ × List Loaded)
@@ -82,3 +83,10 @@ pub record IsTurning (op : Op) (turning : Turning) : Type 0 where
 pub record Stay (lists next : List (List Loaded)) : Type 0 where
   pub within : length lists ≤ length next
   pub same : (index : ℕ) → index < length lists → get_or next index [] ≡ get_or lists index []
+
+-- it is found where some files stand, and the lists so far stay
+pub record Finds (op : Op) (files : Option (List Loaded)) (turning next : Turning) (at : Option ℕ) : Type 0 where
+  pub before : next.before.now ≡ turning.before.now
+  pub known : IsTurning op next
+  pub stay : Stay turning.lists next.lists
+  pub stands : StandAt next.lists files at

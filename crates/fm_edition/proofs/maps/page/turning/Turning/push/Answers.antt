@@ -19,7 +19,8 @@ returns-in_default-clause-shown c =
     let held = files_of before c.args.entry in
     pushed-none c.args.self.now.lists next c.args.entries.now c.args.instant
     (turned_at c.args.change.now.by c.args.touched.now op c.args.instant held) files c.in_ok-list.ensures.stay
-    c.requires.listed (rw instant at (c.turn_at-turn.ensures held) ∙ ap (turned turn op) (sym c.index_of-index.ensures.files))
+    c.requires.listed
+    (rw instant at (c.turn_at-turn.ensures held) ∙ ap (turned turn op) (sym c.index_of-index.ensures.files))
     (subst (StandAt next files) c.in_default.is c.in_ok-list.ensures.stands)
 
 pub returns-clause-listed : goal.returns-clause-listed
@@ -28,8 +29,8 @@ returns-clause-listed c =
     let next = c.index_after.new.self.lists in
     let files = turned c.turn_at-turn.result c.args.change.now.op.now
     (slice_get c.args.self.now.before.now c.index_of-index.result) in
-    on_ok_weaker c.push.result (λ pushed. rw (rw instant at pushed) (listed-pushed c.args.self.now.lists next c.args.entries.now
-    c.args.instant files c.in-Some.list c.in_ok-list.ensures.stay c.requires.listed
+    on_ok_weaker c.push.result (λ pushed. rw (rw instant at pushed) (listed-pushed c.args.self.now.lists next
+    c.args.entries.now c.args.instant files c.in-Some.list c.in_ok-list.ensures.stay c.requires.listed
     (subst (StandAt next files) c.in-Some.is c.in_ok-list.ensures.stands))) c.push.ensures.ok
 
 pub returns-clause-shown : goal.returns-clause-shown
@@ -41,8 +42,9 @@ returns-clause-shown c =
     let next = c.index_after.new.self.lists in
     let files = turned turn op (slice_get before c.index_of-index.result) in
     let held = files_of before c.args.entry in
-    on_ok_weaker c.push.result (λ pushed. rw (rw instant at pushed) (pushed-some c.args.self.now.lists next c.args.entries.now
-    c.args.instant (turned_at c.args.change.now.by c.args.touched.now op c.args.instant held) files c.in-Some.list
+    on_ok_weaker c.push.result (λ pushed. rw (rw instant at pushed) (pushed-some c.args.self.now.lists next
+    c.args.entries.now c.args.instant (turned_at c.args.change.now.by c.args.touched.now op c.args.instant held) files
+    c.in-Some.list
     c.in_ok-list.ensures.stay c.requires.listed
     (rw instant at (c.turn_at-turn.ensures held) ∙ ap (turned turn op) (sym c.index_of-index.ensures.files))
     (subst (StandAt next files) c.in-Some.is c.in_ok-list.ensures.stands))) c.push.ensures.ok

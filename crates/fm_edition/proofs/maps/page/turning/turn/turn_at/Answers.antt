@@ -2,7 +2,7 @@
 use Rattle.std.proofs.Common.{[], ap, cond, rules, sym, ◌∙◌}
 use Rattle.fm_list.specs.Change.{added}
 use Rattle.fm_edition.proofs.TurningLemmas.{turned_at-left, turned_at-taken, turned_at-touched}
-use Rattle.fm_edition.proofs.maps.page.turning.turn_at.Goals as goal
+use Rattle.fm_edition.proofs.maps.page.turning.turn.turn_at.Goals as goal
 
 pub returns-then-not-is_among : goal.returns-then-not-is_among
 returns-then-not-is_among c = λ held.
