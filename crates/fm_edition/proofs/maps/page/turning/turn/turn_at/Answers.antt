@@ -1,5 +1,5 @@
 -- What stands at an instant after each of the three turns.
-use Rattle.std.proofs.Common.{[], ap, cond, rules, sym, ◌∙◌}
+use Rattle.std.proofs.Common.{rules}
 use Rattle.fm_list.specs.Change.{added}
 use Rattle.fm_edition.proofs.TurningLemmas.{turned_at-left, turned_at-taken, turned_at-touched}
 use Rattle.fm_edition.proofs.maps.page.turning.turn.turn_at.Goals as goal
