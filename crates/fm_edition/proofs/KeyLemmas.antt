@@ -8,6 +8,7 @@ use Rattle.std.specs.Ordering.{int_cmp}
 use Rattle.std.proofs.lemmas.Bool.{both_ways}
 use Rattle.std.proofs.lemmas.Int.{ints}
 use Rattle.fm_model.specs.declared.loaded.Loaded.{Loaded}
+use Rattle.fm_model.specs.Rising.{Rises}
 use Rattle.fm_model.proofs.InstantLemmas.{rises_runs_of, rises_times_of}
 use Rattle.fm_model.proofs.Members.{In, Each, EachPair, AllPairs-from_each, each_from_AllPairs, Contains-from_in, in_from_Contains, Each-from_in, Each-in, each_from_All, in_flat_map, In-map, in_map}
 use Rattle.fm_model.proofs.RisingLemmas.{Above, rises_rising, Rises-members}
@@ -24,7 +25,7 @@ use Rattle.fm_edition.proofs.EntryLemmas.{key_held, key_there, of_file, shown_en
 use Rattle.fm_edition.proofs.OrderLemmas.{Rises-from_sorted}
 
 -- a later page has later instants
-page_rises : (a b : ℤ) → page_of a <ℤ page_of b → a <ℤ b
+pub page_rises : (a b : ℤ) → page_of a <ℤ page_of b → a <ℤ b
 unfolding page_of
 page_rises (pos a) (pos b) lt = omega (arith, ints)
 page_rises (pos a) (negsuc b) lt = omega (arith, ints)
@@ -104,12 +105,16 @@ rises_instants Run files = rises_runs_of files
 rises_instants Time files = rises_times_of files
 rises_instants Name files = rises_rising _
 
+-- the instants of some files rise
+pub Rises-instants : (by : By) (files : List Loaded) → Rises (instants by files)
+Rises-instants by files = AllPairs-from_each Above (instants by files) (rises_instants by files)
+
 -- the keys of all pages are the instants of the files
 pub keys_are : (by : By) (files : List Loaded) (pages : Pages) → AreParts by files pages
     → keys_of (entries_of pages) ≡ instants by files
 keys_are by files pages are = Rises-members (keys_of (entries_of pages)) (instants by files)
     (AllPairs-from_each Above (keys_of (entries_of pages)) (rises_flat pages.entries (are_rising by files pages are)))
-    (AllPairs-from_each Above (instants by files) (rises_instants by files))
+    (Rises-instants by files)
     (λ key. (
       λ c. Contains-from_in key (instants by files)
           (key_held by files pages are key (in_from_Contains key (keys_of (entries_of pages)) c)),
@@ -139,7 +144,7 @@ own_key by file key = by_test (selects by key file) refl
 -- the instants of the file that an operation adds are those by which it is found
 pub AreOwn-instants : (by : By) (op : Op) → AreOwn by op (instants by (added op))
 AreOwn-instants by (Put file) = record {
-  rises = AllPairs-from_each Above (instants by (file ∷ [])) (rises_instants by (file ∷ []));
+  rises = Rises-instants by (file ∷ []);
   each = own_key by file;
 }
 AreOwn-instants by (Expire cutoff) = tt

@@ -22,6 +22,7 @@ pub mod RowLemmas
 pub mod RunLemmas
 pub mod SetLemmas
 pub mod ShownLemmas
+pub mod StepLemmas
 pub mod TallyLemmas
 pub mod TurnedLemmas
 pub mod TurningLemmas

@@ -1,12 +1,8 @@
 -- What pages hold after some of their instants were set.
-use Rattle.std.proofs.Common.{◌≡◌, ℕ, ◌+◌, ◌<◌, Bool, true, false, cond, List, [], ◌∷◌, length, get_or, take, Option, None, ℤ, refl, sym, ap, subst, ◌∙◌}
-use Rattle.std.specs.Prelude.{◌&&◌, ◌||◌}
+use Rattle.std.proofs.Common.{◌≡◌, Bool, true, false, cond, List, [], ◌∷◌, Option, None, ℤ, refl, sym, ap, ◌∙◌}
+use Rattle.std.specs.Prelude.{◌&&◌}
 use Rattle.std.specs.List.{AllZip}
 use Rattle.std.specs.Ordering.{int_eq}
-use Rattle.std.specs.Cmp.{signed_Decides}
-use Rattle.std.proofs.lemmas.Bool.{false≢true}
-use Rattle.std.proofs.lemmas.List.{take_more}
-use Rattle.std.proofs.lemmas.List.Folds.{list_any-append}
 use Rattle.fm_model.specs.declared.loaded.Loaded.{Loaded}
 use Rattle.fm_model.specs.declared.op.Op.{Op}
 use Rattle.fm_model.specs.Collection.{after_op}
@@ -65,16 +61,6 @@ page_set-none by op held number key = by_page (int_eq (page_of key) number)
         (held number key) ≡ held number key
     by_page true = refl
     by_page false = refl
-
--- one more page is set, where what it has is made for its number, and what stood at another number for that
-pub set_in : {A : Type 0} (made : ℤ → A) (page held set : A) (number other : ℤ)
-    → set ≡ cond (int_eq number other) page held → page ≡ made number
-    → (int_eq number other ≡ false → held ≡ made other) → set ≡ made other
-set_in made page held set number other is own rest = by_test (int_eq number other) refl
-  where
-    by_test : (same : Bool) → int_eq number other ≡ same → set ≡ made other
-    by_test true same = is ∙ ap (λ b. cond b page held) same ∙ own ∙ ap made ((signed_Decides number other).0 same)
-    by_test false same = is ∙ ap (λ b. cond b page held) same ∙ rest same
 
 -- pages with the same entries hold the same
 pub in_page-same : (pages next : Pages) → next.entries ≡ pages.entries → (number key : ℤ)

@@ -15,9 +15,7 @@ use Rattle.fm_model.specs.declared.op.Op.TheVariants.{Expire}
 use Rattle.fm_model.specs.Collection.{after_op, holds_older}
 use Rattle.fm_model.proofs.Members.{In, Each, All-from_each, Any-from_in, Contains-from_in, Each-from_in, Each-in, each_from_All, in_from_Contains, In-append_left, In-append_right, In-filter, In-flat_map}
 use Rattle.fm_model.proofs.RetractLemmas.{expire-none}
-use Rattle.fm_list.specs.declared.by.By.{By}
 use Rattle.fm_list.specs.Change.{added, gone, keeps, HasGone}
-use Rattle.fm_list.specs.Selected.{part_after, selects}
 use Rattle.fm_edition.specs.Pieces.{joined}
 use Rattle.fm_edition.proofs.ChangeLemmas.{after_op-is}
 
@@ -167,14 +165,6 @@ HasGone-some files some went op is held_by = All-from_each
     (Each-from_in (λ (file : Loaded). keeps op file ≡ false → Contains went file) some (λ file held lost.
     Contains-from_in file went (subst (In file) (sym is)
     (In-filter (λ (f : Loaded). not (keeps op f)) file files (held_by file held) (ap not lost)))))
-
--- what stands by an instant after an operation, the files of the pieces first
-pub part-append : (by : By) (key : ℤ) (op : Op) (files more : List Loaded)
-    → filter (keeps op) files ++ part_after by key op more ≡ part_after by key op (files ++ more)
-unfolding part_after
-part-append by key op files more =
-    sym (append_assoc (filter (keeps op) files) (filter (keeps op) more) (filter (selects by key) (added op)))
-    ∙ ap (λ l. l ++ filter (selects by key) (added op)) (sym (filter-append (keeps op) files more))
 
 -- some file of the pieces, or of the last files, passes
 pub any-files : (test : Loaded → Bool) (pieces : List (List Loaded)) (last : List Loaded)

@@ -1,5 +1,5 @@
 -- A page as an ordered map, and the entry that a search finds among the instants.
-use Rattle.std.proofs.Common.{◌≡◌, ℕ, ◌+◌, ◌<◌, ◌≤◌, ◌<ℤ◌, Bool, true, false, List, [], ◌∷◌, length, get_or, map, drop, Option, None, Some, ℤ, pos, refl, sym, ap, subst, ◌∙◌, arith}
+use Rattle.std.proofs.Common.{◌≡◌, ℕ, ◌+◌, ◌<◌, ◌≤◌, ◌<ℤ◌, Bool, true, false, List, [], ◌∷◌, length, get_or, map, drop, None, Some, ℤ, pos, refl, sym, ap, subst, ◌∙◌, arith}
 use Rattle.std.specs.Prelude.{◌||◌}
 use Rattle.std.specs.BTreeMap.{get, IsOrdered}
 use Rattle.std.specs.Cmp.{signed_Decides}
@@ -36,6 +36,7 @@ less a b lt = by_cmp (int_cmp a b) refl
         let more : b <ℤ a = int_ranked a b Greater (sym is) in
         absurd (omega (arith, ints, lt, more))
 
+-- the keys of a page are its instants
 pub keys-shown : (lists : List (List Loaded)) (entries : List Entry)
     → keys_of (map (shown lists) entries) ≡ instants_of entries
 keys-shown lists [] = refl

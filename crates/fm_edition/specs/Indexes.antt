@@ -1,5 +1,5 @@
 -- What the maps of an edition hold, each as a function of its list of files.
-use Rattle.std.specs.Prelude.{◌≡◌, ◌<◌, ◌+ℤ◌, All, ◌&&◌, ◌==◌, Bool, true, length, List, [], ◌∷◌, Option, None, Some, option_and_then, ℤ, pos, if◌then◌else◌, map}
+use Rattle.std.specs.Prelude.{◌≡◌, ◌<◌, ◌+ℤ◌, All, ◌&&◌, ◌==◌, Bool, true, length, List, [], ◌∷◌, Option, None, option_and_then, ℤ, pos, if◌then◌else◌, map}
 use Rattle.std.specs.BTreeMap.{BTreeMap, get, values, IsOrdered}
 use Rattle.std.specs.Int.{int_div_euclid}
 use Rattle.std.specs.List.{filter_map, flat_map, list_any}

@@ -1,5 +1,5 @@
 -- What an operation leaves of some pages, step by step.
-use Rattle.std.specs.Prelude.{◌≡◌, ◌≢◌, ◌<◌, ◌≤◌, ℕ, ℤ, List, false, get_or, if◌then◌else◌, length, take}
+use Rattle.std.specs.Prelude.{◌≡◌, ◌≢◌, ◌<◌, ◌≤◌, ℕ, ℤ, List, false, get_or, if◌then◌else◌, length}
 use Rattle.std.specs.BTreeMap.{BTreeMap, get}
 use Rattle.std.specs.List.{AllWithin}
 use Rattle.std.specs.Ordering.{int_cmp, int_eq}
@@ -8,7 +8,6 @@ use Rattle.fm_model.specs.declared.op.Op.{Op}
 use Rattle.fm_list.specs.declared.by.By.{By}
 use Rattle.fm_list.specs.Change.{HasGone}
 use Rattle.fm_edition.specs.Indexes.{in_page, or_none, page_of, page_set, touches, AreOrdered, Pages}
-pub use Rattle.fm_edition.specs.Page.{turned_at}
 
 -- what an operation takes out of the files by each instant is among those that went
 abbrev pub HaveGone : List Loaded → Op → Pages → Type 0

@@ -7,6 +7,7 @@ ghost use Rattle.fm_model.specs.Rising.{Rises};
 ghost use Rattle.fm_list.specs.Change.{added};
 ghost use Rattle.fm_list.specs.Selected.{AreOwn};
 ghost use Rattle.fm_edition.specs.Indexes as spec;
+ghost use Rattle.fm_edition.specs.Page.{turned_at};
 ghost use Rattle.fm_edition.specs.Steps as steps;
 
 use crate::maps::files::Files;
@@ -53,8 +54,8 @@ fn set_page(alloc: Global, pages: &mut Pages, number: i64, page: Page) -> Result
     Ok(())
 }
 
-/// An operation, the kind of instant that its files are looked up by, the files that it takes out and adds, the instants
-/// that it touches, and those of the file that it adds.
+/// An operation, the kind of instant that its files are looked up by, the files that it takes out and adds, the
+/// instants that it touches, and those of the file that it adds.
 #[derive(Clone, Copy)]
 pub(crate) struct Change<'a> {
     pub by: By,
@@ -93,7 +94,7 @@ fn page_after(
     requires ordered { spec.AreOrdered pages.now }
     ensures ordered { IfOk result (tree.IsOrdered int_cmp) }
     ensures set { IfOk result (λ page. (key : ℤ) → tree.get int_cmp page key
-        ≡ steps.turned_at change.now.by touched.now change.now.op.now key (spec.in_page pages.now number key)) }
+        ≡ turned_at change.now.by touched.now change.now.op.now key (spec.in_page pages.now number key)) }
 {
     match pages.get(&number) {
         Some(page) => page.get().after(alloc, touched, change),

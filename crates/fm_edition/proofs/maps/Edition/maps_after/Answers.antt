@@ -1,6 +1,7 @@
 -- Each map has what an operation leaves, and so have the rows.
 use Rattle.std.proofs.Common.{◌≡◌, false, sym, ap, subst, ◌∙◌}
 use Rattle.std.specs.Option.{option_map}
+use Rattle.fm_model.specs.Rising.{Rises}
 use Rattle.fm_list.specs.declared.by.By.TheVariants.{Run, Time, Name}
 use Rattle.fm_list.specs.Change.{changed, gone}
 use Rattle.fm_edition.specs.declared.maps.index.Index.{Index}
@@ -8,38 +9,49 @@ use Rattle.fm_edition.specs.Held.{Held}
 use Rattle.fm_edition.specs.Indexes.{instants, page_rows, rows_at, touches}
 use Rattle.fm_edition.specs.Log.{CanFollow}
 use Rattle.fm_edition.proofs.IndexLemmas.{entries_timed-after, AreMaps-after, HaveGone-parts, IsDone}
+use Rattle.fm_edition.proofs.KeyLemmas.{Rises-instants}
 use Rattle.fm_edition.proofs.maps.Edition.maps_after.Goals as goal
 
 pub map_after-requires-clause-ordered : goal.map_after-requires-clause-ordered
 map_after-requires-clause-ordered c = c.self.invariant.maps.of_runs.ordered
 
 pub map_after-requires-clause-gone : goal.map_after-requires-clause-gone
-map_after-requires-clause-gone c = HaveGone-parts Run c.self.inside.files c.args.went.now c.args.op.now
-    c.self.inside.index.by_run c.self.invariant.maps.of_runs
-    (subst (λ (h : Held). c.args.went.now ≡ gone h.files c.args.op.now) (sym c.self.view_is) c.requires.went)
+map_after-requires-clause-gone c =
+    let went = c.args.exchange.now.went.now in
+    let op = c.args.exchange.now.op.now in
+    HaveGone-parts Run c.self.inside.files went op c.self.inside.index.by_run c.self.invariant.maps.of_runs
+    (subst (λ (h : Held). went ≡ gone h.files op) (sym c.self.view_is) c.requires.went)
+
+pub after_change-requires-clause-rise : goal.after_change-requires-clause-rise
+after_change-requires-clause-rise c = subst Rises (sym (c.as_slice.ensures ∙ c.in_ok-times.ensures))
+    (Rises-instants Time c.args.changed.now)
 
 pub after_change-requires-clause-ordered : goal.after_change-requires-clause-ordered
 after_change-requires-clause-ordered c = c.self.invariant.maps.of_times.ordered
 
 pub after_change-requires-clause-gone : goal.after_change-requires-clause-gone
-after_change-requires-clause-gone c = HaveGone-parts Time c.self.inside.files c.args.went.now c.args.op.now
-    c.self.inside.index.by_time c.self.invariant.maps.of_times
-    (subst (λ (h : Held). c.args.went.now ≡ gone h.files c.args.op.now) (sym c.self.view_is) c.requires.went)
+after_change-requires-clause-gone c =
+    let went = c.args.exchange.now.went.now in
+    let op = c.args.exchange.now.op.now in
+    HaveGone-parts Time c.self.inside.files went op c.self.inside.index.by_time c.self.invariant.maps.of_times
+    (subst (λ (h : Held). went ≡ gone h.files op) (sym c.self.view_is) c.requires.went)
 
 pub map_after-requires-2-clause-ordered : goal.map_after-requires-2-clause-ordered
 map_after-requires-2-clause-ordered c = c.self.invariant.maps.of_names.ordered
 
 pub map_after-requires-2-clause-gone : goal.map_after-requires-2-clause-gone
-map_after-requires-2-clause-gone c = HaveGone-parts Name c.self.inside.files c.args.went.now c.args.op.now
-    c.self.inside.index.by_name c.self.invariant.maps.of_names
-    (subst (λ (h : Held). c.args.went.now ≡ gone h.files c.args.op.now) (sym c.self.view_is) c.requires.went)
+map_after-requires-2-clause-gone c =
+    let went = c.args.exchange.now.went.now in
+    let op = c.args.exchange.now.op.now in
+    HaveGone-parts Name c.self.inside.files went op c.self.inside.index.by_name c.self.invariant.maps.of_names
+    (subst (λ (h : Held). went ≡ gone h.files op) (sym c.self.view_is) c.requires.went)
 
 pub best_after-requires-clause-best : goal.best_after-requires-clause-best
 best_after-requires-clause-best c = c.self.invariant.maps.of_best.ordered
 
 pub best_after-requires-clause-timed : goal.best_after-requires-clause-timed
 best_after-requires-clause-timed c =
-    let op = c.args.op.now in
+    let op = c.args.exchange.now.op.now in
     let held : Held = record { proto = c.self.inside.proto; files = c.self.inside.files } in
     let can = subst (λ (h : Held). CanFollow h.proto h.files op) (sym c.self.view_is) c.requires.can in
     let changed_is = subst (λ (h : Held). c.args.changed.now ≡ changed h.files op) (sym c.self.view_is)
@@ -62,7 +74,7 @@ best_after-requires-clause-same c number none =
 
 pub returns : goal.returns
 returns c =
-    let op = c.args.op.now in
+    let op = c.args.exchange.now.op.now in
     let held : Held = record { proto = c.self.inside.proto; files = c.self.inside.files } in
     let index = c.self.inside.index in
     let next : Index = record {

@@ -1,8 +1,7 @@
 -- The entry at the index, with the list that it names.
-use Rattle.std.proofs.Common.{◌≡◌, ◌<◌, ◌∙◌, [], ap, arith, get_or, length, pos, rules, sym, SFits, w64}
+use Rattle.std.proofs.Common.{◌≡◌, ◌<◌, ◌∙◌, [], ap, arith, get_or, length, pos, rules, SFits, w64}
 use Rattle.std.proofs.lemmas.Int.{to_z-of_z}
 use Rattle.std.proofs.lemmas.List.{get_or_default, length-map}
-use Rattle.fm_model.specs.declared.loaded.Loaded.{Loaded}
 use Rattle.fm_edition.specs.Page.{shown, Entries}
 use Rattle.fm_edition.specs.declared.maps.page.Entry.{Entry}
 use Rattle.fm_edition.proofs.ShownLemmas.{drop_shown}

@@ -1,13 +1,10 @@
 -- The files of the found entry.
-use Rattle.std.proofs.Common.{◌≡◌, ◌<◌, ◌∙◌, [], Option, Some, None, ap, arith, get_or, length, rules, subst, sym, SFits, w64}
+use Rattle.std.proofs.Common.{◌<◌, ◌∙◌, [], ap, get_or, length, rules, sym, SFits, w64}
 use Rattle.std.specs.BTreeMap.{get}
-use Rattle.std.specs.Option.{option_map}
-use Rattle.std.specs.Ordering.{int_cmp}
 use Rattle.std.proofs.lemmas.Int.{to_z-of_z}
 use Rattle.std.proofs.lemmas.List.{get_or_default}
 use Rattle.std.proofs.lemmas.List.Elements.{All-contains}
-use Rattle.fm_model.specs.declared.loaded.Loaded.{Loaded}
-use Rattle.fm_edition.specs.Page.{found_in, map_of, or_none, Entries, IsListed}
+use Rattle.fm_edition.specs.Page.{found_in, or_none, Entries, IsListed}
 use Rattle.fm_edition.proofs.maps.page.Page.files.Goals as goal
 
 pub bounds-as_slice-entry : goal.bounds-as_slice-entry
