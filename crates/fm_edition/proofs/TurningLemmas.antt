@@ -1,10 +1,10 @@
 -- What is known of the lists of a page in an operation stays known, and what its entries show grows by what is pushed.
-use Rattle.std.proofs.Common.{◌≡◌, ℕ, zero, suc, ◌<◌, Bool, true, false, eqb, List, [], ◌∷◌, ◌++◌, map, length, get_or, Option, Some, None, ℤ, refl, sym, ap, ◌∙◌, arith}
+use Rattle.std.proofs.Common.{◌≡◌, ℕ, zero, suc, ◌+◌, ◌<◌, Bool, true, false, eqb, List, [], ◌∷◌, ◌++◌, map, length, get_or, Option, Some, None, ℤ, refl, sym, ap, ◌∙◌, arith}
 use Rattle.std.specs.Prelude.{All, filter, slice_get, slice_set}
 use Rattle.std.specs.List.{cons_option}
 use Rattle.std.specs.Option.{option_map}
 use Rattle.std.proofs.lemmas.Bool.{eqb-false, eqb-true}
-use Rattle.std.proofs.lemmas.List.{append-nil, get_or-set_other, get_or-set_same, map-append}
+use Rattle.std.proofs.lemmas.List.{append-nil, get_or-set_other, get_or-set_same, length-append, map-append}
 use Rattle.fm_model.specs.declared.loaded.Loaded.{Loaded}
 use Rattle.fm_model.specs.declared.op.Op.{Op}
 use Rattle.fm_model.proofs.Members.{Each, All-from_each, Each-push, each_from_All}
@@ -18,7 +18,7 @@ use Rattle.fm_edition.specs.declared.maps.page.turning.spots.Spots.{Spots}
 use Rattle.fm_edition.specs.declared.maps.page.turning.turn.Turn.{Turn}
 use Rattle.fm_edition.specs.declared.maps.page.turning.turn.Turn.TheVariants.{Leaves, Takes, Adds}
 use Rattle.fm_edition.specs.Page.{is_among, or_none, shown, some_of, turned_at, IsListed}
-use Rattle.fm_edition.specs.Turning.{known, no_spots, spot_of, turned, with_spot, IsSpot, StandAt, Stay}
+use Rattle.fm_edition.specs.Turning.{known, no_spots, spot_of, turned, with_spot, AreUnknown, IsSpot, StandAt, Stay}
 
 -- an instant that isn't touched has the files that it had
 pub turned_at-left : (by : By) (touched : List ℤ) (op : Op) (key : ℤ) (held : Option (List Loaded))
@@ -40,14 +40,20 @@ pub turned_at-taken : (by : By) (touched : List ℤ) (op : Op) (key : ℤ) (held
 turned_at-taken by touched op key held here none =
     turned_at-touched by touched op key held [] here none ∙ ap some_of (append-nil (filter (keeps op) (or_none held)))
 
--- one item more that is the default of a list
-pub get_or-default_more : {A : Type 0} (items : List A) (item : A) → ((index : ℕ) → get_or items index item ≡ item)
+default_more : {A : Type 0} (items : List A) (item : A) → ((index : ℕ) → get_or items index item ≡ item)
     → (index : ℕ) → get_or (items ++ item ∷ []) index item ≡ item
-get_or-default_more [] item each zero = refl
-get_or-default_more [] item each (suc index) = refl
-get_or-default_more (first ∷ items) item each zero = each 0
-get_or-default_more (first ∷ items) item each (suc index) =
-    get_or-default_more items item (λ k. each (suc k)) index
+default_more [] item each zero = refl
+default_more [] item each (suc index) = refl
+default_more (first ∷ items) item each zero = each 0
+default_more (first ∷ items) item each (suc index) = default_more items item (λ k. each (suc k)) index
+
+-- spots of which nothing is known, and one more of them
+pub AreUnknown-more : (number : ℕ) (spots : List Spots) → AreUnknown number spots
+    → AreUnknown (number + 1) (spots ++ no_spots ∷ [])
+AreUnknown-more number spots are = record {
+  count = length-append spots (no_spots ∷ []) ∙ ap (λ n. n + 1) are.count;
+  each = default_more spots no_spots are.each;
+}
 
 -- what stands among some lists stands there among more
 StandAt-stays : (lists next : List (List Loaded)) (files : Option (List Loaded)) (at : Option ℕ) → Stay lists next
