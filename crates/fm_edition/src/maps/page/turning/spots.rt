@@ -28,8 +28,8 @@ impl Spots {
     ghost use Rattle.fm_edition.specs.Turning as spec;
 
     // The spot after a turn.
-    pub(crate) fn after(self, turn: Turn) -> Spot
-        ensures { result ≡ spec.spot_of turn self }
+    pub(crate) fn after(&self, turn: Turn) -> Spot
+        ensures { result ≡ spec.spot_of turn self.now }
     {
         match turn {
             Turn::Leaves => self.left,
