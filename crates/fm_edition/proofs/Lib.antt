@@ -24,4 +24,6 @@ pub mod SetLemmas
 pub mod ShownLemmas
 pub mod StepLemmas
 pub mod TallyLemmas
+pub mod TurnedLemmas
+pub mod TurningLemmas
 pub mod WalkLemmas

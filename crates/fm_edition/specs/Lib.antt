@@ -9,6 +9,7 @@ pub mod Log
 pub mod Page
 pub mod Pieces
 pub mod Steps
+pub mod Turning
 pub use Rattle.fm_model.specs.Collection
 pub use Rattle.fm_model.specs.Cell
 pub use Rattle.fm_model.specs.Rising

@@ -138,14 +138,15 @@ impl Page {
             ≡ spec.turned_at change.now.by touched.now change.now.op.now key (tree.get int_cmp self.now key)) }
     {
         let instants = instants_with(alloc, self.entries.as_slice(), touched)?;
-        let mut next = Turning::new(alloc, self.lists.as_slice())?;
+        let mut entries = List::new(alloc);
+        let mut turning = Turning::new(alloc, self.lists.as_slice())?;
         for instant in instants.as_slice() {
             let entry = entry_of(self.entries.as_slice(), *instant);
-            next.push(alloc, *instant, entry, touched, change)?;
+            turning.push(alloc, &mut entries, *instant, entry, touched, change)?;
         }
         Ok(Page {
-            entries: next.entries,
-            lists: next.lists,
+            entries,
+            lists: turning.lists,
         })
     }
 }

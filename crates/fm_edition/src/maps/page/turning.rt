@@ -1,174 +1,155 @@
-//! A page after an operation, in the making. What becomes of a list of files is made once.
-ghost use Rattle.std.specs.Prelude.{◌≡◌, IfOk, OnOk};
-ghost use Rattle.fm_list.specs.Change.{HasGone};
+//! The lists of a page after an operation, in the making. What becomes of a list of files is made once.
+ghost use Rattle.std.specs.Prelude.{◌≡◌, ◌≤◌, IfOk, IfSome, OnOk, length, slice_get};
+ghost use Rattle.fm_edition.specs.Page as page;
+ghost use Rattle.fm_edition.specs.Turning as spec;
 
-use crate::maps::files::Files;
+mod spots;
+mod turn;
+
 use crate::maps::page::Entry;
 use crate::maps::pages::Change;
-use crate::maps::roll::{Roll, roll_after};
+use crate::maps::roll::Roll;
 use crate::maps::shared::Shared;
 use fm_base::{List, NoMemory};
-use fm_list::finding::is_among;
+use spots::{Spot, Spots, note, unknown};
 use std::alloc::Global;
+use turn::{Turn, turn_at, turned_list};
 
-/// What an operation does to the files by an instant: it leaves them, takes some out, or adds one as well.
-#[derive(Clone, Copy)]
-pub(crate) enum Turn {
-    Leaves,
-    Takes,
-    Adds,
-}
-
-/// Where it was found that a list of the page before stands in the next one. Without files it stands nowhere.
-#[derive(Clone, Copy)]
-pub(crate) enum Spot {
-    Unknown,
-    Nowhere,
-    At(usize),
-}
-
-/// The next page so far, and where each list of the page before stands in it after each turn. The last of these spots
+/// The lists of the next page so far, and where each list of the page before stands among them. The last of these spots
 /// are those of no files.
 #[derive(Drop)]
 pub(crate) struct Turning<'a> {
-    before: &'a [Shared<Roll>],
-    pub entries: List<Entry>,
+    pub before: &'a [Shared<Roll>],
     pub lists: List<Shared<Roll>>,
-    left: List<Spot>,
-    taken: List<Spot>,
-    added: List<Spot>,
+    pub spots: List<Spots>,
 }
 
-// That many spots of which nothing is known.
-fn unknown(alloc: Global, count: usize) -> Result<List<Spot>, NoMemory> {
-    let mut items = Vec::new(alloc);
-    items.resize(count, Spot::Unknown)?;
-    Ok(List { items })
-}
-
-// What an operation does to the files by an instant.
-fn turn_at(instant: i64, touched: &[i64], change: &Change<'_>) -> Turn {
-    if !is_among(touched, instant) {
-        return Turn::Leaves;
-    }
-    if is_among(change.own, instant) {
-        Turn::Adds
-    } else {
-        Turn::Takes
+// The index of the files of an entry, and that of no files where there is no entry.
+fn index_of(lists: &[Shared<Roll>], entry: Option<Entry>) -> usize
+    requires { IfSome entry (page.IsListed lists.now) }
+    ensures within { result ≤ length lists.now }
+    ensures files { slice_get lists.now result ≡ spec.files_of lists.now entry }
+{
+    match entry {
+        Some(entry) => entry.list,
+        None => lists.len(),
     }
 }
 
-// The files after an operation that touches them, unless there are none.
-fn touched_list(
-    alloc: Global,
-    before: Option<&Shared<Roll>>,
-    adds: bool,
-    change: &Change<'_>,
-) -> Result<Option<Shared<Roll>>, NoMemory> {
-    let files = match before {
-        Some(list) => list.get().all(),
-        None => Files::of(&[]),
-    };
-    let added = if adds { change.added } else { &[] };
-    let roll = roll_after(alloc, &files, change, added)?;
-    if roll.is_empty() {
+// Adds a list, where there is one, and tells its index.
+fn push_list(
+    lists: &mut List<Shared<Roll>>,
+    list: Option<Shared<Roll>>,
+) -> Result<Option<usize>, NoMemory>
+    ensures stay { OnOk result (spec.Stay lists.old lists.new) }
+    ensures stands { IfOk result (spec.StandAt lists.new list) }
+{
+    let Some(list) = list else {
         return Ok(None);
-    }
-    Ok(Some(Shared::new(alloc, roll)?))
-}
-
-// A list after a turn, unless it has no files.
-fn turned_list(
-    alloc: Global,
-    before: Option<&Shared<Roll>>,
-    turn: Turn,
-    change: &Change<'_>,
-) -> Result<Option<Shared<Roll>>, NoMemory> {
-    match turn {
-        Turn::Leaves => match before {
-            Some(list) => Ok(Some(list.clone()?)),
-            None => Ok(None),
-        },
-        Turn::Takes => touched_list(alloc, before, false, change),
-        Turn::Adds => touched_list(alloc, before, true, change),
-    }
+    };
+    let at = lists.len();
+    lists.push(list)?;
+    Ok(Some(at))
 }
 
 impl<'a> Turning<'a> {
-    // The next page without instants, where the page before has these lists.
-    pub(crate) fn new(alloc: Global, before: &'a [Shared<Roll>]) -> Result<Turning<'a>, NoMemory> {
-        let count = before.len() + 1;
+    ghost use Rattle.std.specs.Prelude.{◌≡◌, ◌≤◌, ◌++◌, [], All, IfOk, IfSome, OnOk, length, map, slice_get};
+    ghost use Rattle.std.specs.List.{cons_option};
+    ghost use Rattle.fm_model.specs.declared.op.Op.{Op as Operation};
+    ghost use Rattle.fm_model.specs.Rising.{Rises};
+    ghost use Rattle.fm_list.specs.Change.{added, HasGone};
+    ghost use Rattle.fm_list.specs.Selected.{AreOwn};
+    ghost use Rattle.fm_edition.specs.Page as page;
+    ghost use Rattle.fm_edition.specs.Turning as spec;
+
+    // No lists yet, where the page before has these.
+    pub(crate) fn new(alloc: Global, before: &'a [Shared<Roll>]) -> Result<Turning<'a>, NoMemory>
+        ensures before { IfOk result (λ turning. turning.before.now ≡ before.now) }
+        ensures lists { IfOk result (λ turning. turning.lists ≡ []) }
+        ensures known { IfOk result (λ turning. (op : Operation) → spec.IsTurning op turning) }
+    {
         Ok(Turning {
             before,
-            entries: List::new(alloc),
             lists: List::new(alloc),
-            left: unknown(alloc, count)?,
-            taken: unknown(alloc, count)?,
-            added: unknown(alloc, count)?,
+            spots: unknown(alloc, before)?,
         })
     }
 
-    // Where it was found that each list stands after a turn.
-    fn spots(&mut self, turn: Turn) -> &mut List<Spot> {
-        match turn {
-            Turn::Leaves => &mut self.left,
-            Turn::Takes => &mut self.taken,
-            Turn::Adds => &mut self.added,
-        }
-    }
-
-    // Makes a list as it is after a turn, and notes where it stands.
+    // Makes the files at an index as they are after a turn, and notes where they stand.
     fn make(
         &mut self,
         alloc: Global,
-        from: usize,
+        index: usize,
         turn: Turn,
         change: &Change<'_>,
-    ) -> Result<Option<usize>, NoMemory> {
-        let (spot, at) = match turned_list(alloc, self.before.get(from), turn, change)? {
-            Some(list) => {
-                let at = self.lists.len();
-                self.lists.push(list)?;
-                (Spot::At(at), Some(at))
-            }
-            None => (Spot::Nowhere, None),
-        };
-        self.spots(turn).items[from] = spot;
+    ) -> Result<Option<usize>, NoMemory>
+        requires index { index ≤ length self.old.before.now }
+        requires gone { HasGone change.now.went.now change.now.op.now
+            (page.or_none (slice_get self.old.before.now index)) }
+        requires added { change.now.added.now ≡ added change.now.op.now }
+        requires known { spec.IsTurning change.now.op.now self.old }
+        ensures { IfOk result (spec.Finds change.now.op.now
+            (spec.turned turn change.now.op.now (slice_get self.old.before.now index)) self.old self.new) }
+    {
+        let list = turned_list(alloc, self.before, index, turn, change)?;
+        let at = push_list(&mut self.lists, list)?;
+        note(&mut self.spots, index, turn, at);
         Ok(at)
     }
 
-    // Where a list stands after a turn.
-    fn list_after(
+    // Where the files at an index stand after a turn.
+    fn index_after(
         &mut self,
         alloc: Global,
-        from: usize,
+        index: usize,
         turn: Turn,
         change: &Change<'_>,
-    ) -> Result<Option<usize>, NoMemory> {
-        match self.spots(turn).items[from] {
-            Spot::At(at) => Ok(Some(at)),
-            Spot::Nowhere => Ok(None),
-            Spot::Unknown => self.make(alloc, from, turn, change),
+    ) -> Result<Option<usize>, NoMemory>
+        requires index { index ≤ length self.old.before.now }
+        requires gone { HasGone change.now.went.now change.now.op.now
+            (page.or_none (slice_get self.old.before.now index)) }
+        requires added { change.now.added.now ≡ added change.now.op.now }
+        requires known { spec.IsTurning change.now.op.now self.old }
+        ensures { IfOk result (spec.Finds change.now.op.now
+            (spec.turned turn change.now.op.now (slice_get self.old.before.now index)) self.old self.new) }
+    {
+        match self.spots.as_slice()[index].after(turn) {
+            Spot::Known(at) => Ok(at),
+            Spot::Unknown => self.make(alloc, index, turn, change),
         }
     }
 
-    // Adds an instant with its files after the operation, unless there are none.
+    // Adds an instant with its files after an operation, unless there are none.
     pub(crate) fn push(
         &mut self,
         alloc: Global,
+        entries: &mut List<Entry>,
         instant: i64,
         entry: Option<Entry>,
         touched: &[i64],
         change: &Change<'_>,
-    ) -> Result<(), NoMemory> {
-        let from = match entry {
-            Some(entry) => entry.list,
-            None => self.before.len(),
-        };
+    ) -> Result<(), NoMemory>
+        requires entry { IfSome entry (page.IsListed self.old.before.now) }
+        requires gone { HasGone change.now.went.now change.now.op.now
+            (page.or_none (spec.files_of self.old.before.now entry)) }
+        requires touched { Rises touched.now }
+        requires own { AreOwn change.now.by change.now.op.now change.now.own.now }
+        requires added { change.now.added.now ≡ added change.now.op.now }
+        requires known { spec.IsTurning change.now.op.now self.old }
+        requires listed { All (page.IsListed self.old.lists) entries.old }
+        ensures before { OnOk result (self.new.before.now ≡ self.old.before.now) }
+        ensures known { OnOk result (spec.IsTurning change.now.op.now self.new) }
+        ensures listed { OnOk result (All (page.IsListed self.new.lists) entries.new) }
+        ensures shown { OnOk result (map (page.shown self.new.lists) entries.new
+            ≡ map (page.shown self.old.lists) entries.old
+            ++ cons_option (spec.turned_entry change.now.by touched.now change.now.op.now instant
+            (spec.files_of self.old.before.now entry)) []) }
+    {
+        let index = index_of(self.before, entry);
         let turn = turn_at(instant, touched, change);
-        if let Some(list) = self.list_after(alloc, from, turn, change)? {
-            self.entries.push(Entry { instant, list })?;
-        }
-        Ok(())
+        let Some(list) = self.index_after(alloc, index, turn, change)? else {
+            return Ok(());
+        };
+        entries.push(Entry { instant, list })
     }
 }
