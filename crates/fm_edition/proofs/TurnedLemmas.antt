@@ -1,6 +1,6 @@
 -- What stands at each instant of a page after an operation.
 use Rattle.std.proofs.Common.{◌≡◌, ℕ, ◌+◌, ◌<◌, Bool, true, false, List, [], ◌∷◌, ◌++◌, map, length, get_or, take, Option, Some, None, ℤ, refl, sym, ap, subst, ◌∙◌, inl, inr}
-use Rattle.std.specs.Prelude.{All, Contains, IfSome}
+use Rattle.std.specs.Prelude.{All}
 use Rattle.std.specs.BTreeMap.{BTreeMap, get, keys}
 use Rattle.std.specs.Cmp.{signed_Decides}
 use Rattle.std.specs.List.{cons_option, filter_map}
@@ -9,7 +9,7 @@ use Rattle.std.specs.Option.{option_map}
 use Rattle.std.specs.Ordering.{int_cmp, int_eq}
 use Rattle.std.proofs.lemmas.Bool.{false≢true}
 use Rattle.std.proofs.lemmas.List.{take_more}
-use Rattle.std.proofs.lemmas.List.Elements.{All-contains, All-nil, filter_map-append}
+use Rattle.std.proofs.lemmas.List.Elements.{All-nil, filter_map-append}
 use Rattle.fm_model.specs.declared.loaded.Loaded.{Loaded}
 use Rattle.fm_model.specs.declared.op.Op.{Op}
 use Rattle.fm_model.specs.Rising.{rising, Rises}
@@ -19,7 +19,7 @@ use Rattle.fm_model.proofs.RisingLemmas.{Above, In-rising, rises_rising}
 use Rattle.fm_list.specs.declared.by.By.{By}
 use Rattle.fm_list.specs.Change.{HasGone, IsAmongGone}
 use Rattle.fm_edition.specs.declared.maps.page.Entry.{Entry}
-use Rattle.fm_edition.specs.Page.{instants_of, is_among, map_of, or_none, shown, turned_at, IsListed}
+use Rattle.fm_edition.specs.Page.{instants_of, is_among, map_of, or_none, shown, turned_at}
 use Rattle.fm_edition.specs.Turning.{turned_entries, turned_entry}
 use Rattle.fm_edition.proofs.EntryLemmas.{entry_found}
 use Rattle.fm_edition.proofs.ShownLemmas.{keys-shown}
@@ -182,9 +182,3 @@ HasGone-found went op page key (Some files) gone is =
     Each-in (λ (entry : ℤ × List Loaded). HasGone went op entry.1) (key, files) page.entries
     (each_from_All (λ (entry : ℤ × List Loaded). HasGone went op entry.1) page.entries gone)
     (entry_found page key files is)
-
--- an entry that is found among some is listed as they are
-pub listed-found : (lists : List (List Loaded)) (entries : List Entry) (found : Option Entry)
-    → All (IsListed lists) entries → IfSome found (Contains entries) → IfSome found (IsListed lists)
-listed-found lists entries None listed one = tt
-listed-found lists entries (Some entry) listed one = All-contains (IsListed lists) entries entry listed one

@@ -111,19 +111,13 @@ each_listed lists next [] stay listed = tt
 each_listed lists next (entry ∷ entries) stay listed =
     (omega (arith, stay.within, listed.0), each_listed lists next entries stay listed.1)
 
--- the entries of some lists are entries of more
-pub listed-stays : (lists next : List (List Loaded)) (entries : List Entry) → Stay lists next
-    → All (IsListed lists) entries → All (IsListed next) entries
-listed-stays lists next entries stay listed = All-from_each (IsListed next) entries
-    (each_listed lists next entries stay (each_from_All (IsListed lists) entries listed))
-
 each_shown : (lists next : List (List Loaded)) (entries : List Entry) → Stay lists next
     → Each (IsListed lists) entries → map (shown next) entries ≡ map (shown lists) entries
 each_shown lists next [] stay listed = refl
 each_shown lists next (entry ∷ entries) stay listed =
     rw (stay.same entry.list listed.0, each_shown lists next entries stay listed.1) refl
 
--- and show the same
+-- the entries of some lists show the same of more
 pub shown-stays : (lists next : List (List Loaded)) (entries : List Entry) → Stay lists next
     → All (IsListed lists) entries → map (shown next) entries ≡ map (shown lists) entries
 shown-stays lists next entries stay listed =

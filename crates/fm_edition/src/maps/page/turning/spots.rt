@@ -42,22 +42,15 @@ impl Spots {
     fn with(self, turn: Turn, spot: Spot) -> Spots
         ensures { result ≡ spec.with_spot turn spot self }
     {
-        let Spots { left, taken, added } = self;
         match turn {
-            Turn::Leaves => Spots {
-                left: spot,
-                taken,
-                added,
-            },
+            Turn::Leaves => Spots { left: spot, ..self },
             Turn::Takes => Spots {
-                left,
                 taken: spot,
-                added,
+                ..self
             },
             Turn::Adds => Spots {
-                left,
-                taken,
                 added: spot,
+                ..self
             },
         }
     }

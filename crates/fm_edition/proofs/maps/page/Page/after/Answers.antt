@@ -10,7 +10,7 @@ use Rattle.fm_edition.specs.declared.maps.page.Entry.{Entry}
 use Rattle.fm_edition.specs.Page.{instants_of, map_of, Entries, IsListed}
 use Rattle.fm_edition.specs.Turning.{files_of, turned_entries}
 use Rattle.fm_edition.proofs.ShownLemmas.{keys-shown, IsOrdered-shown}
-use Rattle.fm_edition.proofs.TurnedLemmas.{get-turned, listed-found, turned_entries-more, HasGone-found, Rises-turned}
+use Rattle.fm_edition.proofs.TurnedLemmas.{get-turned, turned_entries-more, HasGone-found, Rises-turned}
 use Rattle.fm_edition.proofs.maps.page.Page.after.Goals as goal
 
 pub loop-instant-init : goal.loop-instant-init
@@ -20,12 +20,6 @@ loop-instant-init c = record {
   listed = rw c.new-entries.ensures (All-nil (IsListed c.in_ok-turning.turning.lists));
   shown = rw c.new-entries.ensures refl;
 }
-
-pub push-requires-clause-entry : goal.push-requires-clause-entry
-push-requires-clause-entry c = rw
-    (c.loop-instant.invariant.before, c.in_ok-turning.ensures.before, c.as_slice-2.ensures)
-    (listed-found c.self.inside.lists c.self.inside.entries c.entry_of-entry.result c.self.invariant.listed
-    (rw c.as_slice-in-loop-instant.ensures at c.entry_of-entry.ensures.one))
 
 pub push-requires-clause-gone : goal.push-requires-clause-gone
 push-requires-clause-gone c =
