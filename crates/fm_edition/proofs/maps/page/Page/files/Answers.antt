@@ -1,6 +1,5 @@
 -- The files of the found entry.
 use Rattle.std.proofs.Common.{◌<◌, ◌∙◌, [], ap, get_or, length, rules, sym, SFits, w64}
-use Rattle.std.specs.BTreeMap.{get}
 use Rattle.std.proofs.lemmas.Int.{to_z-of_z}
 use Rattle.std.proofs.lemmas.List.{get_or_default}
 use Rattle.std.proofs.lemmas.List.Elements.{All-contains}
