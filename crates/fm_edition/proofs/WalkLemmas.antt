@@ -50,6 +50,13 @@ filter_map-more {A} {B} make items i d lt =
     alone None = refl
     alone (Some x) = refl
 
+-- one more item may make one more
+pub one_more : {A B : Type 0} (make : A → Option B) (made : List B) (o : Option B) (items : List A) (i : ℕ) (d : A)
+    → i < length items
+    → made ≡ filter_map make (take i items) → o ≡ make (get_or items i d) → made ++ option_to_list o
+    ≡ filter_map make (take (i + 1) items)
+one_more make made o items i d lt before is = cc (filter_map-more make items i d lt, before, is)
+
 -- what is made of the items so far and of those that are left, with one item more
 pub one_taken : {A B : Type 0} (make : A → Option B) (made : List B) (o : Option B) (item : A) (rest before : List A)
     (whole : List B) → before ≡ item ∷ rest → made ++ filter_map make before ≡ whole → o ≡ make item
