@@ -116,7 +116,7 @@ left_at runs i own lt is = drop_more runs i own lt ∙ ap (λ o. o ∷ drop (i +
 pub record IsPassed (held : List Loaded) (own : RunFiles) (later : List RunFiles) : Type 0 where
   pub before : List ℤ
   pub runs : runs_of held ≡ before ++ own.run ∷ runs_beside later
-  pub files : part Run held own.run ≡ own.files.now
+  pub files : part Run held own.run ≡ own.files
   pub rest : All (IsOfRun held) later
 
 pub passed_run : (held : List Loaded) (latest : Latest) (i count : ℕ) (own : RunFiles) → IsLatest held latest

@@ -15,11 +15,11 @@ BeginLate least valid (run ∷ runs) = has_least_offset least run valid ≡ fals
 
 -- a run, and its files
 abbrev pub entry_of : RunFiles → ℤ × List Loaded
-entry_of own = (own.run, own.files.now)
+entry_of own = (own.run, own.files)
 
 -- the files beside a run are those of some files that are of it
 abbrev pub IsOfRun : List Loaded → RunFiles → Type 0
-IsOfRun held own = part Run held own.run ≡ own.files.now
+IsOfRun held own = part Run held own.run ≡ own.files
 
 -- the runs alone
 abbrev pub runs_beside : List RunFiles → List ℤ

@@ -1,4 +1,5 @@
 pub mod Amounts
+pub mod FileList
 pub mod Held
 pub mod Indexes
 pub mod Instants

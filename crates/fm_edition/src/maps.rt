@@ -14,6 +14,7 @@ mod best;
 mod by_run;
 mod early;
 mod entry;
+mod file_list;
 pub(crate) mod files;
 mod index;
 mod keeping;

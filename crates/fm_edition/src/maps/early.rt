@@ -29,9 +29,8 @@ pub(crate) fn push_kept(
 {
     for at in 0..page.len() {
         let (valid, files) = page.entry(at);
-        let all = files.all();
-        push_best(rows, &all, valid, None)?;
-        let run = all.oldest();
+        push_best(rows, &files, valid, None)?;
+        let run = files.oldest();
         oldest.push(Oldest { valid, run })?;
     }
     Ok(())

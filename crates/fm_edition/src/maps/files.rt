@@ -78,6 +78,16 @@ impl<'a> Files<'a> {
         Files { pieces: &[], last }
     }
 
+    // The same files for another look-up.
+    pub(crate) fn again(&self) -> Files<'a>
+        ensures { result ≡ self.now }
+    {
+        Files {
+            pieces: self.pieces,
+            last: self.last,
+        }
+    }
+
     // How many there are, up to two.
     pub(crate) fn up_to_two(&self) -> usize
         ensures { result ≡ min (length self.now) 2 }

@@ -4,7 +4,6 @@ ghost use Rattle.fm_model.specs.declared.loaded.Loaded.{Loaded as File};
 ghost use Rattle.fm_edition.specs.Latest as spec;
 
 use crate::maps::files::Files;
-use crate::maps::roll::Roll;
 use fm_base::Arc;
 use fm_list::keeps_least_offset;
 use fm_model::Loaded;
@@ -13,7 +12,7 @@ use fm_model::Loaded;
 #[derive(Drop)]
 pub(crate) struct RunFiles<'a> {
     pub run: i64,
-    pub files: &'a Roll,
+    pub files: Files<'a>,
 }
 
 /// A run, its files, and the later runs. The next time that is asked for may stand at the index `near` in a file of the
@@ -50,7 +49,7 @@ impl<'a> Latest<'a> {
     {
         Latest {
             run: own.run,
-            files: own.files.all(),
+            files: own.files.again(),
             later,
             first: 0,
             near: 0,
@@ -67,7 +66,7 @@ impl<'a> Latest<'a> {
         if count > 0 {
             let own = &later[count - 1];
             self.run = own.run;
-            self.files = own.files.all();
+            self.files = own.files.again();
             self.later = &later[count..];
             self.near = self.first;
         }

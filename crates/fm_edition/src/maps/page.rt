@@ -10,10 +10,9 @@ ghost use Rattle.fm_edition.specs.Page as spec;
 mod turning;
 
 use crate::instants::{append, in_order};
+use crate::maps::file_list::FileList;
 use crate::maps::files::Files;
 use crate::maps::pages::Change;
-use crate::maps::roll::Roll;
-use crate::maps::shared::Shared;
 use fm_base::{List, NoMemory};
 use std::alloc::Global;
 use std::marker::Model;
@@ -31,7 +30,7 @@ pub(crate) struct Entry {
 #[derive(Drop)]
 pub(crate) struct Page {
     entries: List<Entry>,
-    lists: List<Shared<Roll>>,
+    lists: List<FileList>,
 }
 
 // The entry of an instant.
@@ -103,12 +102,12 @@ impl Page {
     }
 
     // An instant and its files, by its index.
-    pub(crate) fn entry(&self, at: usize) -> (i64, &Roll)
+    pub(crate) fn entry(&self, at: usize) -> (i64, Files<'_>)
         requires { at < length self.now.entries }
-        ensures { drop at self.now.entries ≡ (result.0, result.1.now) ∷ drop (at + 1) self.now.entries }
+        ensures { drop at self.now.entries ≡ (result.0, result.1) ∷ drop (at + 1) self.now.entries }
     {
         let Entry { instant, list } = self.entries.as_slice()[at];
-        (instant, self.lists.as_slice()[list].get())
+        (instant, self.lists.as_slice()[list].all())
     }
 
     // The files by an instant.
@@ -116,7 +115,7 @@ impl Page {
         ensures { result ≡ spec.found_in self.now instant }
     {
         match entry_of(self.entries.as_slice(), instant) {
-            Some(entry) => self.lists.as_slice()[entry.list].get().all(),
+            Some(entry) => self.lists.as_slice()[entry.list].all(),
             None => Files::of(&[]),
         }
     }

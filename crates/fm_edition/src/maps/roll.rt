@@ -157,7 +157,7 @@ pub(crate) fn roll_after(
 }
 
 impl Roll {
-    ghost use Rattle.std.specs.Prelude.{◌≡◌, ◌↔◌, [], IfOk, IsTrue};
+    ghost use Rattle.std.specs.Prelude.{◌≡◌, ◌↔◌, [], ◌∷◌, IfErr, IfOk, IsTrue};
     ghost use Rattle.fm_model.specs.Collection.{after_op, holds_older};
     ghost use Rattle.fm_list.specs.Change as change;
 
@@ -188,6 +188,21 @@ impl Roll {
         Files {
             pieces: self.pieces.as_slice(),
             last: self.last.as_slice(),
+        }
+    }
+
+    // The file, where it is alone and in no piece, else the same list.
+    pub(crate) fn alone(self) -> Result<Placed, Roll>
+        ensures one { IfOk result (λ file. self ≡ file ∷ []) }
+        ensures other { IfErr result (λ roll. roll ≡ self) }
+    {
+        let Roll { pieces, mut last } = self;
+        if !pieces.is_empty() || last.len() != 1 {
+            return Err(Roll { pieces, last });
+        }
+        match last.items.pop() {
+            Some(file) => Ok(file),
+            None => unreachable!(),
         }
     }
 

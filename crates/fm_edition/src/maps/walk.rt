@@ -67,7 +67,7 @@ fn push_page(rows: &mut List<Row>, page: &Page, wanted: Wanted) -> Result<(), No
 {
     for at in 0..page.len() {
         let (key, files) = page.entry(at);
-        push_wanted(rows, &files.all(), key, wanted)?;
+        push_wanted(rows, &files, key, wanted)?;
     }
     Ok(())
 }
@@ -97,7 +97,7 @@ pub(crate) fn each_one(page: &Page) -> bool
 {
     for at in 0..page.len() {
         let (_, files) = page.entry(at);
-        if !is_one(&files.all()) {
+        if !is_one(&files) {
             return false;
         }
     }
@@ -113,7 +113,7 @@ fn count_page(page: &Page, wanted: Wanted) -> usize
     let mut count = 0;
     for at in 0..page.len() {
         let (key, files) = page.entry(at);
-        if has_wanted(&files.all(), key, wanted) {
+        if has_wanted(&files, key, wanted) {
             count += 1;
         }
     }

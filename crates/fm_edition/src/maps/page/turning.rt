@@ -6,10 +6,9 @@ ghost use Rattle.fm_edition.specs.Turning as spec;
 mod spots;
 mod turn;
 
+use crate::maps::file_list::FileList;
 use crate::maps::page::Entry;
 use crate::maps::pages::Change;
-use crate::maps::roll::Roll;
-use crate::maps::shared::Shared;
 use fm_base::{List, NoMemory};
 use spots::{Spot, Spots, note, unknown};
 use std::alloc::Global;
@@ -19,13 +18,13 @@ use turn::{Turn, turn_at, turned_list};
 /// are those of no files.
 #[derive(Drop)]
 pub(crate) struct Turning<'a> {
-    pub before: &'a [Shared<Roll>],
-    pub lists: List<Shared<Roll>>,
+    pub before: &'a [FileList],
+    pub lists: List<FileList>,
     pub spots: List<Spots>,
 }
 
 // The index of the files of an entry, and that of no files where there is no entry.
-fn index_of(lists: &[Shared<Roll>], entry: Option<Entry>) -> usize
+fn index_of(lists: &[FileList], entry: Option<Entry>) -> usize
     requires { IfSome entry (page.IsListed lists.now) }
     ensures within { result ≤ length lists.now }
     ensures files { slice_get lists.now result ≡ spec.files_of lists.now entry }
@@ -37,10 +36,7 @@ fn index_of(lists: &[Shared<Roll>], entry: Option<Entry>) -> usize
 }
 
 // Adds a list, where there is one, and tells its index.
-fn push_list(
-    lists: &mut List<Shared<Roll>>,
-    list: Option<Shared<Roll>>,
-) -> Result<Option<usize>, NoMemory>
+fn push_list(lists: &mut List<FileList>, list: Option<FileList>) -> Result<Option<usize>, NoMemory>
     ensures stay { OnOk result (spec.Stay lists.old lists.new) }
     ensures stands { IfOk result (spec.StandAt lists.new list) }
 {
@@ -63,7 +59,7 @@ impl<'a> Turning<'a> {
     ghost use Rattle.fm_edition.specs.Turning as spec;
 
     // No lists yet, where the page before has these.
-    pub(crate) fn new(alloc: Global, before: &'a [Shared<Roll>]) -> Result<Turning<'a>, NoMemory>
+    pub(crate) fn new(alloc: Global, before: &'a [FileList]) -> Result<Turning<'a>, NoMemory>
         ensures before { IfOk result (λ turning. turning.before.now ≡ before.now) }
         ensures lists { IfOk result (λ turning. turning.lists ≡ []) }
         ensures known { IfOk result (λ turning. (op : Operation) → spec.IsTurning op turning) }

@@ -11,5 +11,5 @@ loop-at-preserved c =
     let a : SFits w64 c.entry-run.result.0 = search rules in
     let page = c.args.page.now.entries in
     rw c.in_ok-push.ensures.ok (made_taken entry_of c.loop-at.runs (map entry_of c.args.runs.now ++ page) _
-    (c.entry-run.result.0, c.entry-run.result.1.now) (drop (c.loop-at.at + 1) page) (drop c.loop-at.at page) c.entry-run.ensures
-    c.loop-at.invariant (simp to_z-of_z))
+    (c.entry-run.result.0, c.entry-run.result.1) (drop (c.loop-at.at + 1) page) (drop c.loop-at.at page)
+    c.entry-run.ensures c.loop-at.invariant (simp to_z-of_z))

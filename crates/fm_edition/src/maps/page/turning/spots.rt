@@ -2,9 +2,8 @@
 ghost use Rattle.std.specs.Prelude.{◌≡◌, ◌<◌, ◌+◌, IfOk, get_or, length, slice_set};
 ghost use Rattle.fm_edition.specs.Turning as spec;
 
+use crate::maps::file_list::FileList;
 use crate::maps::page::turning::turn::Turn;
-use crate::maps::roll::Roll;
-use crate::maps::shared::Shared;
 use fm_base::{List, NoMemory};
 use std::alloc::Global;
 
@@ -57,7 +56,7 @@ impl Spots {
 }
 
 // Spots of which nothing is known, for each of some lists and for no files.
-pub(crate) fn unknown(alloc: Global, lists: &[Shared<Roll>]) -> Result<List<Spots>, NoMemory>
+pub(crate) fn unknown(alloc: Global, lists: &[FileList]) -> Result<List<Spots>, NoMemory>
     ensures { IfOk result (spec.AreUnknown (length lists.now + 1)) }
 {
     let spots = Spots {

@@ -7,10 +7,10 @@ ghost use Rattle.fm_list.specs.Selected.{selects, AreOwn};
 ghost use Rattle.fm_edition.specs.Page as page;
 ghost use Rattle.fm_edition.specs.Turning as spec;
 
+use crate::maps::file_list::FileList;
 use crate::maps::files::Files;
 use crate::maps::pages::Change;
-use crate::maps::roll::{Roll, roll_after};
-use crate::maps::shared::Shared;
+use crate::maps::roll::roll_after;
 use fm_base::NoMemory;
 use fm_list::Placed;
 use fm_list::finding::is_among;
@@ -55,21 +55,21 @@ pub(crate) fn turn_at(instant: i64, touched: &[i64], change: &Change<'_>) -> Tur
 }
 
 // The files at an index, and none behind the last.
-fn files_at(lists: &[Shared<Roll>], index: usize) -> Files<'_>
+fn files_at(lists: &[FileList], index: usize) -> Files<'_>
     ensures { result ≡ page.or_none (slice_get lists.now index) }
 {
     match lists.get(index) {
-        Some(list) => list.get().all(),
+        Some(list) => list.all(),
         None => Files::of(&[]),
     }
 }
 
 // The list at an index, shared, unless the index is behind the last.
-fn list_at(lists: &[Shared<Roll>], index: usize) -> Result<Option<Shared<Roll>>, NoMemory>
+fn list_at(lists: &[FileList], index: usize) -> Result<Option<FileList>, NoMemory>
     ensures { IfOk result (λ list. list ≡ slice_get lists.now index) }
 {
     match lists.get(index) {
-        Some(list) => Ok(Some(list.clone()?)),
+        Some(list) => Ok(Some(list.share()?)),
         None => Ok(None),
     }
 }
@@ -80,7 +80,7 @@ fn touched_list(
     files: &Files<'_>,
     change: &Change<'_>,
     added: &[Placed],
-) -> Result<Option<Shared<Roll>>, NoMemory>
+) -> Result<Option<FileList>, NoMemory>
     requires { HasGone change.now.went.now change.now.op.now files.now }
     ensures { IfOk result (λ list. list ≡ page.some_of (filter (keeps change.now.op.now) files.now ++ added.now)) }
 {
@@ -88,17 +88,17 @@ fn touched_list(
     if roll.is_empty() {
         return Ok(None);
     }
-    Ok(Some(Shared::new(alloc, roll)?))
+    Ok(Some(FileList::new(alloc, roll)?))
 }
 
 // The list at an index after a turn, unless it has no files.
 pub(crate) fn turned_list(
     alloc: Global,
-    lists: &[Shared<Roll>],
+    lists: &[FileList],
     index: usize,
     turn: Turn,
     change: &Change<'_>,
-) -> Result<Option<Shared<Roll>>, NoMemory>
+) -> Result<Option<FileList>, NoMemory>
     requires gone { HasGone change.now.went.now change.now.op.now (page.or_none (slice_get lists.now index)) }
     requires added { change.now.added.now ≡ added_by change.now.op.now }
     ensures { IfOk result (λ list. list ≡ spec.turned turn change.now.op.now (slice_get lists.now index)) }

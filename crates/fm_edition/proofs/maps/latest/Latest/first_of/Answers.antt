@@ -14,7 +14,7 @@ returns c = λ held are.
     simp to_z-of_z (record {
       before = [];
       runs = are.are;
-      own = rw c.all.ensures first;
+      own = rw c.again.ensures first;
       rest = all_rest (IsOfRun held) own later (own ∷ later) refl are.own;
       sound = are.sound;
     })

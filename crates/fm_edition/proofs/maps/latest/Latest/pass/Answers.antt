@@ -20,7 +20,7 @@ returns-then-count-gt0-clause-stays c = λ held is.
     simp to_z-of_z (record {
       before = on.before;
       runs = rw rest on.runs;
-      own = on.files ∙ sym c.all-self.ensures;
+      own = on.files ∙ sym c.again-self.ensures;
       rest = rw rest on.rest;
       sound = is.sound;
     })

@@ -17,9 +17,9 @@ returns c =
     let long = ap (λ (m : Entries). length m.entries) c.self.view_is in
     let within : at < length entries = omega (arith, long, c.requires, length-map entries (shown lists)) in
     let listed : (get_or entries at d).list < length lists = c.self.invariant.listed at d within in
-    let files : c.get.result.now ≡ get_or lists (get_or entries at d).list [] = c.get.ensures ∙ c.index-as_slice-list.is
+    let files : c.all.result ≡ get_or lists (get_or entries at d).list [] = c.all.ensures ∙ c.index-as_slice-list.is
     ∙ ap (λ l. get_or l (get_or c.as_slice.result.now at d).list c.index-as_slice-list.result) c.as_slice-2.ensures
     ∙ ap (λ l. get_or lists (get_or l at d).list c.index-as_slice-list.result) c.as_slice.ensures
     ∙ get_or_default lists (get_or entries at d).list c.index-as_slice-list.result [] listed in
     rw (← c.self.view_is, to_z-of_z w64 (get_or c.as_slice.result.now at d).instant a, c.as_slice.ensures)
-    (drop_shown lists entries at d c.get.result.now within files)
+    (drop_shown lists entries at d c.all.result within files)

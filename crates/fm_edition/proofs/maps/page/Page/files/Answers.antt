@@ -18,7 +18,7 @@ returns-in-Some c =
     let listed : entry.list < length lists = All-contains (IsListed lists)
     c.self.inside.entries entry c.self.invariant.listed (rw c.as_slice.ensures at c.in-Some.ensures.one) in
     let found = rw (c.as_slice.ensures, to_z-of_z w64 c.args.instant a) at c.in-Some.ensures.files lists in
-    c.all.ensures ∙ c.get.ensures ∙ c.index-as_slice-entry.is
+    c.all.ensures ∙ c.index-as_slice-entry.is
     ∙ ap (λ l. get_or l entry.list c.index-as_slice-entry.result) c.as_slice-in-Some.ensures
     ∙ get_or_default lists entry.list c.index-as_slice-entry.result [] listed ∙ sym (ap or_none found)
     ∙ ap (λ (m : Entries). found_in m c.args.instant) c.self.view_is
