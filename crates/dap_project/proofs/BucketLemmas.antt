@@ -1,7 +1,7 @@
 -- A walk through the indices of a bucket passes over declarations of which a path picks nothing.
 use Rattle.std.proofs.Common.{cond, ◌≡◌, ℕ, zero, suc, ◌+◌, ◌<◌, ◌≤◌, ◌-◌, Bool, true, false, List, [], ◌∷◌, ◌++◌, length, take, drop, get_or, set, None, refl, sym, ap, ap₂, ◌∙◌, append_assoc, take-add, arith}
 use Rattle.std.proofs.lemmas.Bool.{cond-false, eq-eqb, true≢false}
-use Rattle.std.proofs.lemmas.List.{drop-drop, drop_all, drop_more, length-drop, length-set, take-append-drop}
+use Rattle.std.proofs.lemmas.List.{drop-drop, drop-set-lt, get_or-drop, drop_all, drop_more, length-drop, length-set, take-append-drop}
 use Rattle.std.proofs.lemmas.Slice.Eq.{bytes_eq-Decides}
 use Rattle.std.specs.Str.{bytes_eq}
 use Rattle.dap_model.specs.Picking.{decl_named, is_picked, name_of, nothing, picked_below, picked_by}
@@ -201,13 +201,14 @@ pub record AreNoted (decls : List Decl) (clause : Clause) (indices : List ℕ) (
   pub from : ℕ
   pub left : AreLeft decls clause.path indices from
   pub count : length notes ≡ length decls
+  pub kept : drop from notes ≡ drop from old
   pub noted : take from notes ++ notes_after clause (drop from decls) (drop from notes)
       ≡ notes_after clause decls old
 
 pub first_noted : (decls : List Decl) (clause : Clause) (indices : List ℕ) (notes : List Note)
     → indices ≡ indices_for decls clause.path → length notes ≡ length decls → AreNoted decls clause indices notes notes
 first_noted decls clause indices notes are same =
-    record { from = 0; left = all_left decls clause.path indices are; count = same; noted = refl }
+    record { from = 0; left = all_left decls clause.path indices are; count = same; kept = refl; noted = refl }
 
 pub noted_here : (decls : List Decl) (clause : Clause) (indices : List ℕ) (notes old : List Note) (at d : ℕ)
     (decl : Decl) (note new : Note) → at < length indices → AreNoted decls clause (drop at indices) notes old
@@ -223,6 +224,7 @@ noted_here decls clause indices notes old at d decl note new lt so_far is_decl i
     let passed = notes_passed clause (drop from decls) (drop from notes) step.after
     (omega (arith, step.is, step.within, long)) (omega (arith, long, long_notes, so_far.count)) step.passed in
     let rest = notes_after clause (drop step.after (drop from decls)) (drop step.after (drop from notes)) in
+    let whole : from + (step.after + 1) ≡ index + 1 = omega (arith, step.is) in
     let up_to_here : take from notes ++ notes_after clause (drop from decls) (drop from notes)
     ≡ take index notes ++ notes_after clause (drop index decls) (drop index notes) =
     ap (λ (l : List Note). take from notes ++ l) passed
@@ -235,10 +237,30 @@ noted_here decls clause indices notes old at d decl note new lt so_far is_decl i
       from = index + 1;
       left = step.left;
       count = length-set notes index new ∙ so_far.count;
+      kept = drop-set-lt (index + 1) notes index new (omega arith)
+          ∙ ap (λ (n : ℕ). drop n notes) (sym whole)
+          ∙ sym (drop-drop (step.after + 1) from notes)
+          ∙ ap (drop (step.after + 1)) so_far.kept
+          ∙ drop-drop (step.after + 1) from old
+          ∙ ap (λ (n : ℕ). drop n old) whole;
       noted = sym (notes_step clause decls notes index decl note new step.within
           (omega (arith, step.within, so_far.count)) is_decl is_note to)
           ∙ sym up_to_here ∙ so_far.noted;
     }
+
+-- a note that the walk comes to is as it was before
+pub as_before : (decls : List Decl) (clause : Clause) (indices : List ℕ) (notes old : List Note) (at d : ℕ)
+    (note : Note) → at < length indices → AreNoted decls clause (drop at indices) notes old
+    → note ≡ get_or notes (get_or indices at d) note → note ≡ get_or old (get_or indices at d) note
+as_before decls clause indices notes old at d note lt so_far is =
+    let from = so_far.from in
+    let step = next decls clause.path indices at d from lt so_far.left in
+    is
+    ∙ ap (λ (n : ℕ). get_or notes n note) step.is
+    ∙ sym (get_or-drop from notes step.after note)
+    ∙ ap (λ (l : List Note). get_or l step.after note) so_far.kept
+    ∙ get_or-drop from old step.after note
+    ∙ ap (λ (n : ℕ). get_or old n note) (sym step.is)
 
 pub all_noted : (decls : List Decl) (clause : Clause) (indices : List ℕ) (notes old : List Note) (at : ℕ)
     → length indices ≤ at → AreNoted decls clause (drop at indices) notes old → notes ≡ notes_after clause decls old

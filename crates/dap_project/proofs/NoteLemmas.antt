@@ -113,7 +113,7 @@ differ_noted decl earlier clause note is =
     ∙ ap (slots_differ (λ part. given_by decl clause part) 0) (slots_of decl earlier)
     ∙ differ_from decl (λ part. given_by decl clause part) 0 (parts_of decl) earlier)
 
-given_as : (decl : Decl) (clause : Clause) (picked : Picked) (note : Note) → picked ≡ picked_by decl clause.path
+pub given_as : (decl : Decl) (clause : Clause) (picked : Picked) (note : Note) → picked ≡ picked_by decl clause.path
     → slots_differ (λ part. slabs_for decl clause.slabs part picked) 0 note.slots
     ≡ slots_differ (λ part. given_by decl clause part) 0 note.slots
 unfolding given_by

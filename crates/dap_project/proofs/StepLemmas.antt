@@ -1,6 +1,7 @@
 -- One item further in a list of slots, notes or parts.
 use Rattle.std.proofs.Common.{◌||◌, ◌≡◌, ℕ, zero, suc, ◌+◌, ◌<◌, ◌≤◌, Bool, true, false, List, [], ◌∷◌, ◌++◌, length, map, take, drop, get_or, set, slice_get, Option, Some, None, refl, sym, ap, ap₂, ◌∙◌, append_assoc, append-nil, arith}
 use Rattle.std.proofs.lemmas.List.{drop_all, drop_more, drop-set-lt, take_all, take_more_set}
+use Rattle.std.proofs.lemmas.Bool.{true≢false}
 use Rattle.std.specs.List.{zip}
 use Rattle.nc_model.specs.declared.header.Dim.{Dim}
 use Rattle.dap_model.specs.Projection.{cut_dim}
@@ -201,6 +202,21 @@ unfolding slots_differ
 differ_later given slots at slot within is same =
     ap (λ (t : Bool). t || slots_differ given (at + 1) (drop (at + 1) slots)) same
     ∙ sym (ap (slots_differ given at) (left slots at slot within is))
+
+-- where none differs, neither the next one does nor those after it
+pub none_differs : (given : ℕ → Option (List Slab)) (slots : List Slot) (at : ℕ) (slot new : Slot) → at < length slots
+    → slot ≡ get_or slots at slot → slots_differ given at (drop at slots) ≡ false
+    → (slot_differs slot (given at) ≡ false)
+    × (slots_differ given (at + 1) (drop (at + 1) (set slots at new)) ≡ false)
+unfolding slots_differ
+none_differs given slots at slot new within is none =
+    let both = neither (slot_differs slot (given at)) (slots_differ given (at + 1) (drop (at + 1) slots))
+    (sym (ap (slots_differ given at) (left slots at slot within is)) ∙ none) in
+    (both.0, ap (slots_differ given (at + 1)) (drop-set-lt (at + 1) slots at new (omega arith)) ∙ both.1)
+  where
+    neither : (a b : Bool) → (a || b) ≡ false → (a ≡ false) × (b ≡ false)
+    neither true b e = absurd (true≢false e)
+    neither false b e = (refl, e)
 
 pub differ_end : (given : ℕ → Option (List Slab)) (slots : List Slot) (at : ℕ) → length slots ≤ at
     → false ≡ slots_differ given at (drop at slots)

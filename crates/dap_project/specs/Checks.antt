@@ -1,5 +1,5 @@
 -- What a check of a clause returns, and which slabs can be cut.
-use Rattle.std.specs.Prelude.{◌≡◌, ◌⊎◌, ◌-◌, ◌≤◌, ◌<◌, ◌^◌, ℕ, List, All, Option, Some, None, Result, Ok, Err, slice_get}
+use Rattle.std.specs.Prelude.{IsFalse, get_or, ◌≡◌, ◌⊎◌, ◌-◌, ◌≤◌, ◌<◌, ◌^◌, ℕ, List, All, Option, Some, None, Result, Ok, Err, slice_get}
 use Rattle.fm_base.specs.declared.fail.Fail.{Fail}
 use Rattle.fm_base.specs.declared.fail.Fail.TheVariants as fails
 use Rattle.nc_model.specs.declared.header.Dim.{Dim}
@@ -8,7 +8,8 @@ use Rattle.dap_model.specs.declared.declaration.Array.{Array}
 use Rattle.dap_model.specs.declared.projection.Clause.{Clause}
 use Rattle.dap_model.specs.declared.projection.Slab.{Slab}
 use Rattle.dap_model.specs.declared.declaration.Decl.{Decl}
-use Rattle.dap_model.specs.Picking.{parts_of}
+use Rattle.dap_model.specs.Picking.{given_by, parts_of}
+use Rattle.dap_project.specs.Notes.{slots_differ}
 use Rattle.dap_project.specs.declared.note.Note.{Note}
 use Rattle.dap_project.specs.declared.slot.Slot.{Slot}
 use Rattle.dap_project.specs.declared.slot.Slot.TheVariants.{Free, Taken}
@@ -18,6 +19,15 @@ abbrev pub Finds : {A E : Type 0} → Option E → Result A (Fail E) → Type 0
 Finds fault (Ok done) = fault ≡ None
 Finds fault (Err fails.NoMemory) = Unit {0}
 Finds fault (Err (fails.Fault found)) = fault ≡ Some found
+
+-- a clause gives no part of a declaration other slabs than its note has
+abbrev pub Agrees : Decl → Clause → Note → Type 0
+Agrees decl clause note = IsFalse (slots_differ (λ part. given_by decl clause part) 0 note.slots)
+
+-- it gives none to a part of the declaration at an index
+abbrev pub AgreesAt : List Decl → List Note → Clause → ℕ → Type 0
+AgreesAt decls notes clause at =
+    (decl : Decl) (note : Note) → decl ≡ get_or decls at decl → note ≡ get_or notes at note → Agrees decl clause note
 
 -- a slab has a stride, and its count fits 64 bits
 pub record IsCountable (slab : Slab) : Type 0 where

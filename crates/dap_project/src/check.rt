@@ -4,7 +4,7 @@ ghost use Rattle.dap_model.specs.ClauseFaults as spec;
 ghost use Rattle.dap_model.specs.Picking as picking;
 ghost use Rattle.dap_model.specs.declared.projection.Clause as clauses;
 ghost use Rattle.dap_project.specs.Buckets.{indices_for};
-ghost use Rattle.dap_project.specs.Checks.{Finds, HasCountable, IsCountable};
+ghost use Rattle.dap_project.specs.Checks.{Agrees, AgreesAt, Finds, HasCountable, IsCountable};
 ghost use Rattle.dap_project.specs.Notes.{note_of, picked_of};
 
 use crate::note::{Note, slots_differ};
@@ -95,7 +95,8 @@ fn check_conflict(
     choice: Choice,
 ) -> Result<(), Fail<ProjectFault>>
     requires { picked_of choice ≡ picking.picked_by decl.now clause.now.path }
-    ensures { (earlier : List clauses.Clause) → note.now ≡ note_of earlier decl.now
+    ensures agrees { OnOk result (Agrees decl.now clause.now note.now) }
+    ensures fault { (earlier : List clauses.Clause) → note.now ≡ note_of earlier decl.now
         → Finds (spec.conflict_fault decl.now earlier clause.now) result }
 {
     if slots_differ(decl, clause.slabs.as_slice(), choice, note.slots.as_slice()) {
@@ -116,6 +117,7 @@ fn check_decl(
     ensures fault { (earlier : List clauses.Clause) → note.now ≡ note_of earlier decl.now
         → Finds (spec.decl_fault decl.now earlier clause.now) result }
     ensures countable { OnOk result (HasCountable clause.now) }
+    ensures agrees { OnOk result (Agrees decl.now clause.now note.now) }
 {
     let path = clause.path.as_slice();
     let slabs = clause.slabs.as_slice();
@@ -126,7 +128,8 @@ fn check_decl(
     check_conflict(alloc, decl, note, clause, choice)
 }
 
-// The first fault of a clause, which may pick something of the declarations at these indices alone.
+// The first fault of a clause, which may pick something of the declarations at these indices alone, or the index of the
+// declaration that it names.
 #[tactic(auto, unfolding(dap_model::specs::ClauseFaults::clause_fault))]
 pub(crate) fn check_clause(
     alloc: Global,
@@ -134,15 +137,19 @@ pub(crate) fn check_clause(
     indices: &[usize],
     notes: &[Note],
     clause: &Clause,
-) -> Result<(), Fail<ProjectFault>>
+) -> Result<usize, Fail<ProjectFault>>
     requires count { length notes.now ≡ length decls.now }
     requires indices { indices.now ≡ indices_for decls.now clause.now.path }
     ensures fault { (earlier : List clauses.Clause) → notes.now ≡ map (note_of earlier) decls.now
         → Finds (spec.clause_fault decls.now earlier clause.now) result }
     ensures countable { OnOk result (HasCountable clause.now) }
+    ensures agrees { IfOk result (AgreesAt decls.now notes.now clause.now) }
 {
     match index_named(decls, indices, clause.path.as_slice()) {
-        Some(at) => check_decl(alloc, &decls[at], &notes[at], clause),
+        Some(at) => match check_decl(alloc, &decls[at], &notes[at], clause) {
+            Ok(()) => Ok(at),
+            Err(fail) => Err(fail),
+        },
         None => {
             let name = path_text(alloc, clause.path.as_slice())?;
             Err(Fail::Fault(ProjectFault::NoSuchVariable(name)))

@@ -1,7 +1,8 @@
 //! What clauses ask of the declarations of a dataset, noted clause by clause.
-ghost use Rattle.std.specs.Prelude.{◌≡◌, IfOk, OnOk, length, map, None};
+ghost use Rattle.std.specs.Prelude.{◌≡◌, IfOk, IsFalse, IsTrue, OnOk, length, map, None};
 ghost use Rattle.dap_model.specs.Picking as picking;
 ghost use Rattle.dap_project.specs.Buckets.{indices_for};
+ghost use Rattle.dap_project.specs.Checks.{Agrees, AgreesAt};
 ghost use Rattle.dap_project.specs.Notes as spec;
 
 use crate::part::part_count;
@@ -34,19 +35,23 @@ fn free_slots(alloc: Global, decl: &Decl) -> Result<List<Slot>, NoMemory>
     Ok(slots)
 }
 
-// Notes what a clause gives to each part of a declaration of which it picks something.
+// Notes what a clause gives to each part of a declaration of which it picks something. `agrees`: the caller knows that
+// no slot has other slabs.
 fn note_slots(
     alloc: Global,
     decl: &Decl,
     slabs: &[Slab],
     choice: Choice,
     slots: &mut [Slot],
+    agrees: bool,
 ) -> Result<(), NoMemory>
+    requires { IsTrue agrees → IsFalse (spec.slots_differ
+        (λ part. picking.slabs_for decl.now slabs.now part (spec.picked_of choice)) 0 slots.old) }
     ensures { OnOk result (slots.new ≡ spec.slots_after
         (λ part. picking.slabs_for decl.now slabs.now part (spec.picked_of choice)) 0 slots.old) }
 {
     for part in 0..slots.len() {
-        slots[part].add(alloc, decl, slabs, part, choice)?;
+        slots[part].add(alloc, decl, slabs, part, choice, agrees)?;
     }
     Ok(())
 }
@@ -78,28 +83,26 @@ impl Note {
         })
     }
 
-    // Notes what a clause asks of the declaration. Most clauses ask nothing of it.
+    // Notes what a clause asks of the declaration. Most clauses ask nothing of it. `agrees`: the caller knows that no
+    // part has other slabs.
     #[tactic(auto, unfolding(crate::specs::Notes::note_after, dap_model::specs::Picking::given_by))]
     pub(crate) fn add(
         &mut self,
         alloc: Global,
         decl: &Decl,
         clause: &Clause,
+        agrees: bool,
     ) -> Result<(), NoMemory>
+        requires { IsTrue agrees → Agrees decl.now clause.now self.old }
         ensures { OnOk result (self.new ≡ spec.note_after decl.now clause.now self.old) }
     {
         let choice = picked_by(decl, clause.path.as_slice());
         if !is_picked(choice) {
             return Ok(());
         }
-        let slots = &mut self.slots;
-        note_slots(
-            alloc,
-            decl,
-            clause.slabs.as_slice(),
-            choice,
-            slots.items.as_mut_slice(),
-        )?;
+        let slabs = clause.slabs.as_slice();
+        let slots = self.slots.items.as_mut_slice();
+        note_slots(alloc, decl, slabs, choice, slots, agrees)?;
         self.picked = self.picked || is_picked(choice);
         self.every = self.every || is_every(choice);
         Ok(())
@@ -118,20 +121,23 @@ pub(crate) fn fresh_notes(alloc: Global, decls: &[Decl]) -> Result<List<Note>, N
     Ok(notes)
 }
 
-// Notes what a clause asks of each declaration. It may pick something of those at these indices alone.
+// Notes what a clause asks of each declaration. It may pick something of those at these indices alone. It was checked
+// on one of them: no part of that has other slabs.
 pub(crate) fn note_clause(
     alloc: Global,
     decls: &[Decl],
     indices: &[usize],
     notes: &mut [Note],
     clause: &Clause,
+    checked: usize,
 ) -> Result<(), NoMemory>
     requires count { length notes.old ≡ length decls.now }
     requires indices { indices.now ≡ indices_for decls.now clause.now.path }
+    requires checked { AgreesAt decls.now notes.old clause.now checked }
     ensures { OnOk result (notes.new ≡ spec.notes_after clause.now decls.now notes.old) }
 {
     for at in indices {
-        notes[*at].add(alloc, &decls[*at], clause)?;
+        notes[*at].add(alloc, &decls[*at], clause, *at == checked)?;
     }
     Ok(())
 }

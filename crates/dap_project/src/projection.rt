@@ -34,8 +34,9 @@ fn add_clause(
     ensures countable { OnOk result (HasCountable clause.now) }
 {
     let indices = index.indices(clause.path.as_slice());
-    check_clause(alloc, decls, indices, notes.as_slice(), clause)?;
-    note_clause(alloc, decls, indices, notes.items.as_mut_slice(), clause)?;
+    let checked = check_clause(alloc, decls, indices, notes.as_slice(), clause)?;
+    let noted = notes.items.as_mut_slice();
+    note_clause(alloc, decls, indices, noted, clause, checked)?;
     Ok(())
 }
 

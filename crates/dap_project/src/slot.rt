@@ -1,5 +1,5 @@
 //! The slabs of one part, as clauses give them.
-ghost use Rattle.std.specs.Prelude.{◌≡◌, OnOk};
+ghost use Rattle.std.specs.Prelude.{◌≡◌, IsFalse, IsTrue, OnOk};
 ghost use Rattle.dap_model.specs.Picking.{slabs_for};
 ghost use Rattle.dap_project.specs.Notes as spec;
 
@@ -18,7 +18,8 @@ pub(crate) enum Slot {
 }
 
 impl Slot {
-    // Notes what a clause gives the part, if anything. The slabs of a taken slot are compared where they lie.
+    // Notes what a clause gives the part, if anything. The slabs of a taken slot are compared where they lie. With
+    // `agrees` the caller knows that they don't differ, and none are compared.
     pub(crate) fn add(
         &mut self,
         alloc: Global,
@@ -26,7 +27,10 @@ impl Slot {
         slabs: &[Slab],
         part: usize,
         choice: Choice,
+        agrees: bool,
     ) -> Result<(), NoMemory>
+        requires { IsTrue agrees → IsFalse (spec.slot_differs self.old
+            (slabs_for decl.now slabs.now part (spec.picked_of choice))) }
         ensures { OnOk result (self.new
             ≡ spec.slot_after (slabs_for decl.now slabs.now part (spec.picked_of choice)) self.old) }
     {
@@ -36,6 +40,7 @@ impl Slot {
                     *self = Slot::Taken(first, false);
                 }
             }
+            Slot::Taken(_, _) if agrees => {}
             Slot::Taken(first, mixed) => {
                 if let Some(same) = is_given(decl, slabs, part, choice, first.as_slice()) {
                     *mixed = *mixed || !same;

@@ -29,7 +29,7 @@ fn whole_note(alloc: Global, decl: &Decl) -> Result<Note, NoMemory>
 {
     let mut note = Note::fresh(alloc, decl)?;
     let whole = whole_clause(alloc, decl)?;
-    let noted = note.add(alloc, decl, &whole);
+    let noted = note.add(alloc, decl, &whole, false);
     drop(whole);
     noted?;
     Ok(note)

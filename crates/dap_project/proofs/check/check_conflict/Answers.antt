@@ -5,11 +5,11 @@ use Rattle.dap_model.specs.declared.fault.ProjectFault.TheVariants.{SlabConflict
 use Rattle.dap_model.specs.declared.projection.Slab.{Slab}
 use Rattle.dap_project.specs.Notes.{picked_of, slots_differ}
 use Rattle.dap_project.specs.declared.slot.Slot.{Slot}
-use Rattle.dap_project.proofs.NoteLemmas.{conflict, no_conflict}
+use Rattle.dap_project.proofs.NoteLemmas.{conflict, given_as, no_conflict}
 use Rattle.dap_project.proofs.check.check_conflict.Goals as goal
 
-pub returns-then-slots_differ : goal.returns-then-slots_differ
-returns-then-slots_differ c = λ earlier is.
+pub returns-then-slots_differ-clause-fault : goal.returns-then-slots_differ-clause-fault
+returns-then-slots_differ-clause-fault c = λ earlier is.
     let decl = c.args.decl.now in
     let picked = picked_of c.args.choice in
     conflict decl earlier c.args.clause.now c.args.note.now picked is
@@ -20,8 +20,8 @@ returns-then-slots_differ c = λ earlier is.
     ∙ c.if-slots_differ.true)
     ∙ ap (λ (name : List ℕ). Some (SlabConflict name)) (sym (c.in_ok-name.ensures ∙ c.name_of.ensures))
 
-pub returns : goal.returns
-returns c = λ earlier is.
+pub returns-clause-fault : goal.returns-clause-fault
+returns-clause-fault c = λ earlier is.
     let decl = c.args.decl.now in
     let picked = picked_of c.args.choice in
     no_conflict decl earlier c.args.clause.now c.args.note.now picked is
@@ -30,3 +30,13 @@ returns c = λ earlier is.
     (sym c.as_slice.ensures) (sym c.as_slice-2.ensures)
     ∙ sym c.slots_differ.ensures
     ∙ c.if-slots_differ.false)
+
+pub returns-clause-agrees : goal.returns-clause-agrees
+returns-clause-agrees c =
+    let decl = c.args.decl.now in
+    let picked = picked_of c.args.choice in
+    sym (given_as decl c.args.clause.now picked c.args.note.now c.requires)
+    ∙ ap₂ (λ (s : List Slab) (l : List Slot). slots_differ (λ part. slabs_for decl s part picked) 0 l)
+    (sym c.as_slice.ensures) (sym c.as_slice-2.ensures)
+    ∙ sym c.slots_differ.ensures
+    ∙ c.if-slots_differ.false
