@@ -5,6 +5,7 @@ ghost use Rattle.dap_model.specs.Picking as picking;
 ghost use Rattle.dap_model.specs.declared.projection.Clause as clauses;
 ghost use Rattle.dap_project.specs.Buckets.{indices_for};
 ghost use Rattle.dap_project.specs.Checks.{Agrees, AgreesAt, Finds, HasCountable, IsCountable};
+ghost use Rattle.dap_project.specs.Full.{full_note, full_notes};
 ghost use Rattle.dap_project.specs.Notes.{note_of, picked_of};
 
 use crate::note::{Note, slots_differ};
@@ -95,8 +96,8 @@ fn check_conflict(
     choice: Choice,
 ) -> Result<(), Fail<ProjectFault>>
     requires { picked_of choice ≡ picking.picked_by decl.now clause.now.path }
-    ensures agrees { OnOk result (Agrees decl.now clause.now note.now) }
-    ensures fault { (earlier : List clauses.Clause) → note.now ≡ note_of earlier decl.now
+    ensures agrees { OnOk result (Agrees decl.now clause.now (full_note decl.now note.now)) }
+    ensures fault { (earlier : List clauses.Clause) → full_note decl.now note.now ≡ note_of earlier decl.now
         → Finds (spec.conflict_fault decl.now earlier clause.now) result }
 {
     if slots_differ(decl, clause.slabs.as_slice(), choice, note.slots.as_slice()) {
@@ -114,10 +115,10 @@ fn check_decl(
     note: &Note,
     clause: &Clause,
 ) -> Result<(), Fail<ProjectFault>>
-    ensures fault { (earlier : List clauses.Clause) → note.now ≡ note_of earlier decl.now
+    ensures fault { (earlier : List clauses.Clause) → full_note decl.now note.now ≡ note_of earlier decl.now
         → Finds (spec.decl_fault decl.now earlier clause.now) result }
     ensures countable { OnOk result (HasCountable clause.now) }
-    ensures agrees { OnOk result (Agrees decl.now clause.now note.now) }
+    ensures agrees { OnOk result (Agrees decl.now clause.now (full_note decl.now note.now)) }
 {
     let path = clause.path.as_slice();
     let slabs = clause.slabs.as_slice();
@@ -140,10 +141,10 @@ pub(crate) fn check_clause(
 ) -> Result<usize, Fail<ProjectFault>>
     requires count { length notes.now ≡ length decls.now }
     requires indices { indices.now ≡ indices_for decls.now clause.now.path }
-    ensures fault { (earlier : List clauses.Clause) → notes.now ≡ map (note_of earlier) decls.now
+    ensures fault { (earlier : List clauses.Clause) → full_notes decls.now notes.now ≡ map (note_of earlier) decls.now
         → Finds (spec.clause_fault decls.now earlier clause.now) result }
     ensures countable { OnOk result (HasCountable clause.now) }
-    ensures agrees { IfOk result (AgreesAt decls.now notes.now clause.now) }
+    ensures agrees { IfOk result (AgreesAt decls.now (full_notes decls.now notes.now) clause.now) }
 {
     match index_named(decls, indices, clause.path.as_slice()) {
         Some(at) => match check_decl(alloc, &decls[at], &notes[at], clause) {

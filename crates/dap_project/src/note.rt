@@ -3,6 +3,7 @@ ghost use Rattle.std.specs.Prelude.{◌≡◌, IfOk, IsFalse, IsTrue, OnOk, leng
 ghost use Rattle.dap_model.specs.Picking as picking;
 ghost use Rattle.dap_project.specs.Buckets.{indices_for};
 ghost use Rattle.dap_project.specs.Checks.{Agrees, AgreesAt};
+ghost use Rattle.dap_project.specs.Full.{full_note, full_notes, full_slots};
 ghost use Rattle.dap_project.specs.Notes as spec;
 
 use crate::part::part_count;
@@ -46,9 +47,11 @@ fn note_slots(
     agrees: bool,
 ) -> Result<(), NoMemory>
     requires { IsTrue agrees → IsFalse (spec.slots_differ
-        (λ part. picking.slabs_for decl.now slabs.now part (spec.picked_of choice)) 0 slots.old) }
-    ensures { OnOk result (slots.new ≡ spec.slots_after
-        (λ part. picking.slabs_for decl.now slabs.now part (spec.picked_of choice)) 0 slots.old) }
+        (λ part. picking.slabs_for decl.now slabs.now part (spec.picked_of choice)) 0
+        (full_slots decl.now slots.old)) }
+    ensures { OnOk result (full_slots decl.now slots.new ≡ spec.slots_after
+        (λ part. picking.slabs_for decl.now slabs.now part (spec.picked_of choice)) 0
+        (full_slots decl.now slots.old)) }
 {
     for part in 0..slots.len() {
         slots[part].add(alloc, decl, slabs, part, choice, agrees)?;
@@ -59,7 +62,8 @@ fn note_slots(
 // Whether a clause gives some part of a declaration other slabs than an earlier clause did.
 pub(crate) fn slots_differ(decl: &Decl, slabs: &[Slab], choice: Choice, slots: &[Slot]) -> bool
     ensures { result ≡ spec.slots_differ
-        (λ part. picking.slabs_for decl.now slabs.now part (spec.picked_of choice)) 0 slots.now }
+        (λ part. picking.slabs_for decl.now slabs.now part (spec.picked_of choice)) 0
+        (full_slots decl.now slots.now) }
 {
     for part in 0..slots.len() {
         if slot_differs(&slots[part], decl, slabs, part, choice) {
@@ -93,8 +97,9 @@ impl Note {
         clause: &Clause,
         agrees: bool,
     ) -> Result<(), NoMemory>
-        requires { IsTrue agrees → Agrees decl.now clause.now self.old }
-        ensures { OnOk result (self.new ≡ spec.note_after decl.now clause.now self.old) }
+        requires { IsTrue agrees → Agrees decl.now clause.now (full_note decl.now self.old) }
+        ensures { OnOk result (full_note decl.now self.new
+            ≡ spec.note_after decl.now clause.now (full_note decl.now self.old)) }
     {
         let choice = picked_by(decl, clause.path.as_slice());
         if !is_picked(choice) {
@@ -133,8 +138,9 @@ pub(crate) fn note_clause(
 ) -> Result<(), NoMemory>
     requires count { length notes.old ≡ length decls.now }
     requires indices { indices.now ≡ indices_for decls.now clause.now.path }
-    requires checked { AgreesAt decls.now notes.old clause.now checked }
-    ensures { OnOk result (notes.new ≡ spec.notes_after clause.now decls.now notes.old) }
+    requires checked { AgreesAt decls.now (full_notes decls.now notes.old) clause.now checked }
+    ensures { OnOk result (full_notes decls.now notes.new
+        ≡ spec.notes_after clause.now decls.now (full_notes decls.now notes.old)) }
 {
     for at in indices {
         notes[*at].add(alloc, &decls[*at], clause, *at == checked)?;

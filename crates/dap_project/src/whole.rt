@@ -1,6 +1,7 @@
 //! The notes by which all declarations are sent whole.
 ghost use Rattle.std.specs.Prelude.{◌≡◌, [], ◌∷◌, IfOk, map};
 ghost use Rattle.dap_model.specs.Projection.{whole_clause};
+ghost use Rattle.dap_project.specs.Full.{full_note, full_notes};
 ghost use Rattle.dap_project.specs.Notes.{note_for, note_of};
 
 use crate::note::Note;
@@ -23,9 +24,9 @@ fn whole_clause(alloc: Global, decl: &Decl) -> Result<Clause, NoMemory>
 }
 
 // What that clause asks of the declaration.
-#[tactic(auto, unfolding(crate::specs::Notes::note_from))]
+#[tactic(auto, unfolding(crate::specs::Notes::note_from), using(crate::proofs::FullLemmas::full_fresh))]
 fn whole_note(alloc: Global, decl: &Decl) -> Result<Note, NoMemory>
-    ensures { IfOk result (λ note. note ≡ note_of (whole_clause decl.now ∷ []) decl.now) }
+    ensures { IfOk result (λ note. full_note decl.now note ≡ note_of (whole_clause decl.now ∷ []) decl.now) }
 {
     let mut note = Note::fresh(alloc, decl)?;
     let whole = whole_clause(alloc, decl)?;
@@ -36,8 +37,9 @@ fn whole_note(alloc: Global, decl: &Decl) -> Result<Note, NoMemory>
 }
 
 // The notes of all declarations where there is no clause.
+#[tactic(auto, unfolding(crate::specs::Full::full_notes))]
 pub(crate) fn whole_notes(alloc: Global, decls: &[Decl]) -> Result<List<Note>, NoMemory>
-    ensures { IfOk result (λ notes. notes ≡ map (note_for []) decls.now) }
+    ensures { IfOk result (λ notes. full_notes decls.now notes ≡ map (note_for []) decls.now) }
 {
     let items = Vec::with_capacity(alloc, decls.len())?;
     let mut notes = List { items };
