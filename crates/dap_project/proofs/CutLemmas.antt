@@ -1,5 +1,5 @@
 -- What clauses without a fault give to parts can be cut, and its counts fit 64 bits.
-use Rattle.std.proofs.Common.{◌≡◌, ℕ, zero, suc, ◌+◌, ◌-◌, ◌<◌, ◌≤◌, ◌^◌, List, [], ◌∷◌, ◌==◌, length, true, map, drop, slice_get, All, Option, Some, refl, sym, ap, ap₂, subst, ◌∙◌, inl, inr, arith}
+use Rattle.std.proofs.Common.{◌≡◌, ℕ, zero, suc, ◌+◌, ◌-◌, ◌<◌, ◌^◌, List, [], ◌∷◌, ◌==◌, length, true, map, drop, slice_get, All, Some, refl, sym, ap, ap₂, subst, ◌∙◌, inl, inr, arith}
 use Rattle.std.proofs.Math.Nat.{div-le_self}
 use Rattle.std.proofs.lemmas.Bool.{cases_Bool, cond-true, cond-false, eqb-true}
 use Rattle.std.proofs.lemmas.List.Elements.{All-cons, All-contains, All-drop, All-nil, All-take}
@@ -100,7 +100,8 @@ slot_cut clauses decl part array Free all is_part is_slot = tt
 slot_cut clauses decl part array (Taken slabs mixed) all is_part is_slot =
     let sent : slabs_of clauses decl part ≡ Some slabs =
     sym (ap slot_slabs is_slot ∙ slabs_noted clauses decl part) in
-    subst (λ (l : List Dim). AreCuts l slabs) (dims_there decl part array is_part) (slabs_cut clauses decl part slabs all sent)
+    subst (λ (l : List Dim). AreCuts l slabs) (dims_there decl part array is_part)
+    (slabs_cut clauses decl part slabs all sent)
 
 slots_cut : (clauses : List Clause) (decl : Decl) → All HasCountable clauses
     → CanBeCut (parts_of decl) (note_for clauses decl).slots

@@ -1,5 +1,5 @@
 -- The declaration that is named is one of them, and has a note.
-use Rattle.std.proofs.Common.{◌≡◌, ◌<◌, ap, arith, get_or, length, subst, sym, ◌∙◌}
+use Rattle.std.proofs.Common.{◌≡◌, ◌<◌, ap, arith, length, subst, sym, ◌∙◌}
 use Rattle.std.proofs.lemmas.List.{get_or_default}
 use Rattle.dap_model.specs.Picking.{decl_named}
 use Rattle.dap_model.specs.declared.declaration.Decl.{Decl}

@@ -1,5 +1,5 @@
 -- The slot of the part is noted.
-use Rattle.std.proofs.Common.{◌≡◌, ◌<◌, ◌+◌, ◌++◌, IsFalse, List, ap, arith, drop, length, subst, sym, take, ◌∙◌}
+use Rattle.std.proofs.Common.{◌<◌, ◌+◌, ◌++◌, IsFalse, List, ap, arith, drop, length, subst, sym, take, ◌∙◌}
 use Rattle.dap_model.specs.Picking.{slabs_for}
 use Rattle.dap_project.specs.Full.{full_part, full_slots}
 use Rattle.dap_project.specs.Notes.{picked_of, slot_after, slot_differs, slots_after, slots_differ}

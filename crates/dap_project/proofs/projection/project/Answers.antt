@@ -25,7 +25,8 @@ returns-in_err-notes c =
     (refused_notes decls c.args.asked.now.clauses fail
     (subst
     (λ (l : List Clause).
-    AnswersAs {X = List Note} (full_notes decls) (notes_or_fault (map (note_for l) decls) (first_fault decls [] l)) (Err fail))
+    AnswersAs {X = List Note} (full_notes decls)
+    (notes_or_fault (map (note_for l) decls) (first_fault decls [] l)) (Err fail))
     c.as_slice.ensures c.in_err-notes.ensures.notes))
 
 pub all_sent-requires-clause-cuts : goal.all_sent-requires-clause-cuts
@@ -50,7 +51,9 @@ returns c =
     (subst (λ (l : List Clause). notes_or_fault (map (note_for l) decls) (first_fault decls [] l) ≡ Ok notes)
     c.as_slice.ensures c.in_ok-notes.ensures.notes) in
     answer.0
-    ∙ ap (λ (p : Projected). Ok p) (sym (c.in_ok-all_sent.ensures ∙ ap (λ (l : List Note). noted_all decls (full_notes decls l)) c.as_slice-2.ensures))
+    ∙ ap (λ (p : Projected). Ok p)
+    (sym (c.in_ok-all_sent.ensures
+    ∙ ap (λ (l : List Note). noted_all decls (full_notes decls l)) c.as_slice-2.ensures))
 
 pub all_sent-requires-clause-count : goal.all_sent-requires-clause-count
 all_sent-requires-clause-count c =

@@ -1,5 +1,5 @@
 -- A part more is sent; after the last slot nothing is left.
-use Rattle.std.proofs.Common.{◌≡◌, ◌<◌, ◌+◌, ◌++◌, List, ap, arith, drop, length, sym, ◌∙◌}
+use Rattle.std.proofs.Common.{◌<◌, ◌+◌, ◌++◌, List, ap, arith, drop, length, sym, ◌∙◌}
 use Rattle.nc_model.specs.declared.header.Dim.{Dim}
 use Rattle.dap_model.specs.declared.projection.Sent.{Sent}
 use Rattle.dap_project.specs.Full.{full_part, full_slot, full_slots}
