@@ -17,6 +17,7 @@ use Rattle.dap_project.specs.Checks.{Finds}
 use Rattle.dap_project.specs.Noted.{noted_all, notes_or_fault}
 use Rattle.dap_project.specs.Notes.{note_for, note_of}
 use Rattle.dap_project.specs.declared.note.Note.{Note}
+use Rattle.dap_project.specs.declared.picked.Named.{Named}
 use Rattle.dap_project.proofs.SentLemmas.{all_noted}
 use Rattle.dap_project.proofs.StepLemmas.{item_at}
 
@@ -30,7 +31,7 @@ fault_named decls earlier clause at decl within is named =
 
 -- a fault is found where the same one is
 pub found_for : (whole part : Option ProjectFault) (fail : Fail ProjectFault) → whole ≡ part
-    → Finds {A = Unit {0}} part (Err fail) → Finds {A = ℕ} whole (Err fail)
+    → Finds {A = Unit {0}} part (Err fail) → Finds {A = Named} whole (Err fail)
 found_for whole part fails.NoMemory is found = tt
 found_for whole part (fails.Fault fault) is found = is ∙ found
 

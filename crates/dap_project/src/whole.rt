@@ -5,7 +5,7 @@ ghost use Rattle.dap_project.specs.Full.{full_note, full_notes};
 ghost use Rattle.dap_project.specs.Notes.{note_for, note_of};
 
 use crate::note::Note;
-use crate::picked::name_of;
+use crate::picked::{name_of, picked_by};
 use dap_model::{Clause, Decl};
 use fm_base::{Bytes, List, NoMemory};
 use std::alloc::Global;
@@ -30,7 +30,8 @@ fn whole_note(alloc: Global, decl: &Decl) -> Result<Note, NoMemory>
 {
     let mut note = Note::fresh(alloc, decl)?;
     let whole = whole_clause(alloc, decl)?;
-    let noted = note.add(alloc, decl, &whole, false);
+    let choice = picked_by(decl, whole.path.as_slice());
+    let noted = note.add(alloc, decl, &whole, choice, false);
     drop(whole);
     noted?;
     Ok(note)

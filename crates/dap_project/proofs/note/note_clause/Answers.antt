@@ -1,6 +1,7 @@
 -- The note at the index is noted. Where the clause was checked on it, it is as it was then.
 use Rattle.std.proofs.Common.{rules, ◌≡◌, ℕ, ◌<◌, ◌+◌, List, ap, arith, drop, get_or, length, subst, sym, ◌∙◌}
 use Rattle.std.proofs.lemmas.Bool.{eqb-true}
+use Rattle.dap_model.specs.Picking.{picked_by}
 use Rattle.dap_project.specs.Checks.{Agrees}
 use Rattle.dap_project.specs.Full.{full_note, full_notes}
 use Rattle.dap_project.specs.Notes.{note_after}
@@ -73,8 +74,8 @@ returns c =
     (full_notes c.args.decls.now c.args.notes.now) c.loop-at.at-index (omega (arith, c.loop-at-test.false))
     c.loop-at.invariant
 
-pub add-requires : goal.add-requires
-add-requires c = λ agrees.
+pub add-requires-clause-agrees : goal.add-requires-clause-agrees
+add-requires-clause-agrees c = λ agrees.
     let decls = c.args.decls.now in
     let clause = c.args.clause.now in
     let indices = c.args.indices.now in
@@ -86,12 +87,20 @@ add-requires c = λ agrees.
     let so_far = c.loop-at.invariant in
     let within = (next decls clause.path indices at 0 so_far.from c.loop-at-test.true so_far.left).within in
     let there : index < length notes = omega (arith, within, so_far.count, length-full_notes decls notes) in
-    let here : index ≡ c.args.checked = eqb-true _ _ agrees in
+    let here : index ≡ c.args.checked.at = eqb-true _ _ agrees in
     let old = as_before decls clause indices (full_notes decls notes) (full_notes decls c.args.notes.now) at 0
     (full_note decl note) c.loop-at-test.true so_far
     (note_there decls notes index decl note (full_note decl note) within there c.index-decls-at.is
     c.index-notes-at.is) in
     subst (λ (n : Note). Agrees decl clause (full_note decl n)) c.index-notes-at.is
-    (c.requires.checked decl (full_note decl note)
+    (c.requires.checked.agrees decl (full_note decl note)
     (c.index-decls-at.is ∙ ap (λ (n : ℕ). get_or decls n decl) here)
     (old ∙ ap (λ (n : ℕ). get_or (full_notes decls c.args.notes.now) n (full_note decl note)) here))
+
+pub choice_on-choice-requires : goal.choice_on-choice-requires
+choice_on-choice-requires c = λ known.
+    let decl = c.index-decls-at.result in
+    let here : get_or c.args.indices.now c.loop-at.at-index 0 ≡ c.args.checked.at = eqb-true _ _ known in
+    c.requires.checked.choice decl
+    (c.index-decls-at.is ∙ ap (λ (n : ℕ). get_or c.args.decls.now n decl) here)
+    ∙ ap (picked_by decl) (sym c.as_slice.ensures)
