@@ -1,17 +1,16 @@
 -- What clauses without a fault give to parts can be cut, and its counts fit 64 bits.
-use Rattle.std.proofs.Common.{◌≡◌, ℕ, zero, suc, ◌+◌, ◌-◌, ◌<◌, ◌≤◌, ◌^◌, List, [], ◌∷◌, ◌==◌, map, drop, slice_get, All, Option, Some, sym, ap, subst, ◌∙◌, inl, inr, arith}
+use Rattle.std.proofs.Common.{◌≡◌, ℕ, zero, suc, ◌+◌, ◌-◌, ◌<◌, ◌^◌, List, [], ◌∷◌, ◌==◌, length, true, map, drop, slice_get, All, Some, refl, sym, ap, ap₂, subst, ◌∙◌, inl, inr, arith}
 use Rattle.std.proofs.Math.Nat.{div-le_self}
-use Rattle.std.proofs.lemmas.Bool.{cases_Bool, cond-true, cond-false}
+use Rattle.std.proofs.lemmas.Bool.{cases_Bool, cond-true, cond-false, eqb-true}
 use Rattle.std.proofs.lemmas.List.Elements.{All-cons, All-contains, All-drop, All-nil, All-take}
 use Rattle.std.proofs.lemmas.Option.{none-some, same_Some}
-use Rattle.std.specs.List.{filter_map}
-use Rattle.std.specs.Option.{option_map_or}
+use Rattle.std.specs.List.{filter_map, zip}
 use Rattle.nc_model.specs.declared.header.Dim.{Dim}
 use Rattle.dap_model.proofs.ListLemmas.{Has, contains_from_Has, Has-slice_get, Source-filter_map}
 use Rattle.dap_model.proofs.SlabLemmas.{count_cases, slab_count-whole}
 use Rattle.dap_model.specs.Box.{slab_count, whole_slab, HasStride}
 use Rattle.dap_model.specs.Picking.{Picked, nothing, every, only, given_by, or_whole, part_dims, parts_of, picked_by, slabs_for, spread, whole_slabs}
-use Rattle.dap_model.specs.Projection.{clauses_for, slabs_of, whole_clause}
+use Rattle.dap_model.specs.Projection.{clauses_for, cut_dim, slabs_of, whole_clause}
 use Rattle.dap_model.specs.declared.declaration.Array.{Array}
 use Rattle.dap_model.specs.declared.declaration.Decl.{Decl}
 use Rattle.dap_model.specs.declared.projection.Clause.{Clause}
@@ -21,6 +20,7 @@ use Rattle.dap_project.specs.Notes.{note_for}
 use Rattle.dap_project.specs.declared.note.Note.{Note}
 use Rattle.dap_project.specs.declared.slot.Slot.{Slot}
 use Rattle.dap_project.specs.declared.slot.Slot.TheVariants.{Free, Taken}
+use Rattle.dap_project.proofs.FullLemmas.{dims_there}
 use Rattle.dap_project.proofs.NoteLemmas.{slots_of}
 use Rattle.dap_project.proofs.SentLemmas.{slabs_noted}
 use Rattle.dap_project.proofs.SlotLemmas.{slot_at, slot_from, slot_slabs}
@@ -100,9 +100,8 @@ slot_cut clauses decl part array Free all is_part is_slot = tt
 slot_cut clauses decl part array (Taken slabs mixed) all is_part is_slot =
     let sent : slabs_of clauses decl part ≡ Some slabs =
     sym (ap slot_slabs is_slot ∙ slabs_noted clauses decl part) in
-    let dims : part_dims decl part ≡ array.dims =
-    ap (λ (o : Option Array). option_map_or (λ (a : Array). a.dims) o []) is_part in
-    subst (λ (l : List Dim). AreCuts l slabs) dims (slabs_cut clauses decl part slabs all sent)
+    subst (λ (l : List Dim). AreCuts l slabs) (dims_there decl part array is_part)
+    (slabs_cut clauses decl part slabs all sent)
 
 slots_cut : (clauses : List Clause) (decl : Decl) → All HasCountable clauses
     → CanBeCut (parts_of decl) (note_for clauses decl).slots
@@ -119,6 +118,19 @@ pub notes_cut : (clauses : List Clause) (decls : List Decl) → All HasCountable
 notes_cut clauses decls all = λ index decl note is_decl is_note.
     subst (λ (n : Note). CanBeCut (parts_of decl) n.slots)
     (sym (map_at (note_for clauses) decls index decl note is_decl is_note)) (slots_cut clauses decl all)
+
+whole_dims : (dims : List Dim) → dims ≡ map cut_dim (zip dims (whole_slabs dims))
+unfolding whole_slabs
+whole_dims [] = refl
+whole_dims (dim ∷ dims) =
+    ap₂ (λ (d : Dim) (l : List Dim). d ∷ l)
+    (ap (λ (n : ℕ). record dim { size = n }) (sym (slab_count-whole dim.size))) (whole_dims dims)
+
+-- where no slabs stand, dimensions stay as they are
+pub whole_cut : (dims : List Dim) (slabs : List Slab) → (length slabs == 0) ≡ true
+    → dims ≡ map cut_dim (zip dims (or_whole dims slabs))
+whole_cut dims [] none = whole_dims dims
+whole_cut dims (slab ∷ slabs) none = absurd (omega (arith, eqb-true (length (slab ∷ slabs)) 0 none))
 
 -- ---- counts
 

@@ -1,12 +1,13 @@
 -- The first fault, clause by clause, and what is answered for notes or a fault.
-use Rattle.std.proofs.Common.{true, ◌==◌, ◌≡◌, ℕ, ◌+◌, ◌<◌, ◌≤◌, List, [], ◌∷◌, ◌++◌, length, map, take, drop, get_or, Option, Some, None, Ok, Err, refl, sym, ap, ◌∙◌, arith}
+use Rattle.std.proofs.Common.{true, ◌==◌, ◌≡◌, ℕ, ◌+◌, ◌<◌, ◌≤◌, List, [], ◌∷◌, ◌++◌, length, map, take, drop, get_or, slice_get, Option, Some, None, Ok, Err, refl, sym, ap, ◌∙◌, arith}
 use Rattle.std.proofs.lemmas.Bool.{eqb-true}
 use Rattle.std.proofs.lemmas.List.{drop_all, drop_more, take_all, take_more}
 use Rattle.std.specs.Option.{option_or}
 use Rattle.fm_base.specs.Answer.{Answers}
 use Rattle.fm_base.specs.declared.fail.Fail.{Fail}
 use Rattle.fm_base.specs.declared.fail.Fail.TheVariants as fails
-use Rattle.dap_model.specs.ClauseFaults.{clause_fault, first_fault}
+use Rattle.dap_model.specs.ClauseFaults.{clause_fault, decl_fault, fault_in, first_fault}
+use Rattle.dap_model.specs.Picking.{decl_named}
 use Rattle.dap_model.specs.Projection.{all_sent, projection_of, unless_fault}
 use Rattle.dap_model.specs.declared.declaration.Decl.{Decl}
 use Rattle.dap_model.specs.declared.fault.ProjectFault.{ProjectFault}
@@ -16,7 +17,23 @@ use Rattle.dap_project.specs.Checks.{Finds}
 use Rattle.dap_project.specs.Noted.{noted_all, notes_or_fault}
 use Rattle.dap_project.specs.Notes.{note_for, note_of}
 use Rattle.dap_project.specs.declared.note.Note.{Note}
+use Rattle.dap_project.specs.declared.picked.Named.{Named}
 use Rattle.dap_project.proofs.SentLemmas.{all_noted}
+use Rattle.dap_project.proofs.StepLemmas.{item_at}
+
+-- the fault of a clause is that on the declaration that it names
+pub fault_named : (decls : List Decl) (earlier : List Clause) (clause : Clause) (at : ℕ) (decl : Decl)
+    → at < length decls → decl ≡ get_or decls at decl → slice_get decls at ≡ decl_named decls clause.path
+    → clause_fault decls earlier clause ≡ decl_fault decl earlier clause
+unfolding clause_fault
+fault_named decls earlier clause at decl within is named =
+    ap (fault_in earlier clause) (sym named ∙ item_at decls at decl within is)
+
+-- a fault is found where the same one is
+pub found_for : (whole part : Option ProjectFault) (fail : Fail ProjectFault) → whole ≡ part
+    → Finds {A = Unit {0}} part (Err fail) → Finds {A = Named} whole (Err fail)
+found_for whole part fails.NoMemory is found = tt
+found_for whole part (fails.Fault fault) is found = is ∙ found
 
 -- a clause without a fault leaves those after it
 pub no_fault_at : (decls : List Decl) (clauses : List Clause) (at : ℕ) (clause : Clause) → at < length clauses

@@ -3,6 +3,7 @@ pub mod BucketLemmas
 pub mod CutLemmas
 pub mod FaultLemmas
 pub mod FilledLemmas
+pub mod FullLemmas
 pub mod IndexLemmas
 pub mod NoteLemmas
 pub mod SentLemmas

@@ -1,13 +1,14 @@
 -- A slot keeps the first slabs that clauses give its part, and says whether others differ from some of them.
-use Rattle.std.proofs.Common.{arith, ◌≡◌, ℕ, zero, suc, ◌+◌, Bool, true, false, not, ◌||◌, List, [], ◌∷◌, length, slice_get, Option, Some, None, refl, sym, ap, ap₂, ◌∙◌, inl, inr}
-use Rattle.std.proofs.lemmas.Bool.{cases_Bool, true≢false}
+use Rattle.std.proofs.Common.{arith, ◌==◌, ◌≡◌, ℕ, zero, suc, ◌+◌, Bool, true, false, not, ◌||◌, List, [], ◌∷◌, length, slice_get, Option, Some, None, refl, sym, ap, ap₂, ◌∙◌, inl, inr}
+use Rattle.std.proofs.lemmas.Bool.{cases_Bool, eqb-true, true≢false}
 use Rattle.std.proofs.lemmas.Slice.Eq.{slice_eq-Decides}
 use Rattle.std.specs.Cmp.Lexicographic.{pointwise}
 use Rattle.std.specs.List.{cons_option, filter_map, list_any, range_with_len}
 use Rattle.std.specs.Option.{option_or}
 use Rattle.dap_model.proofs.ProjectionAgreeLemmas.{same_slab}
 use Rattle.dap_model.specs.ClauseFaults.{are_other, is_same_slab}
-use Rattle.dap_model.specs.Picking.{given_by}
+use Rattle.nc_model.specs.declared.header.Dim.{Dim}
+use Rattle.dap_model.specs.Picking.{given_by, or_whole, whole_slabs}
 use Rattle.dap_model.specs.declared.declaration.Array.{Array}
 use Rattle.dap_model.specs.declared.declaration.Decl.{Decl}
 use Rattle.dap_model.specs.declared.projection.Clause.{Clause}
@@ -60,6 +61,44 @@ same_slabs first second e =
 slabs_same : (first second : List Slab) → first ≡ second → pointwise is_same_slab first second ≡ true
 slabs_same first second e =
     (slice_eq-Decides same_slab first second (pointwise is_same_slab first second) refl).1 e
+
+swapped : (first second : List Slab) → pointwise is_same_slab first second ≡ pointwise is_same_slab second first
+swapped first second = elim (cases_Bool (pointwise is_same_slab first second)) [
+  | inl same ↦ same ∙ sym (slabs_same second first (sym (same_slabs first second same)))
+  | inr other ↦ elim (cases_Bool (pointwise is_same_slab second first)) [
+    | inl same ↦
+        absurd (true≢false (sym (slabs_same first second (sym (same_slabs second first same))) ∙ other))
+    | inr apart ↦ other ∙ sym apart
+  ]
+]
+
+pub alike_none : (dims : List Dim) (first second : List Slab) → (length first == 0) ≡ true → (length second == 0) ≡ true
+    → true ≡ pointwise is_same_slab (or_whole dims first) (or_whole dims second)
+alike_none dims [] [] none empty = sym (slabs_same (whole_slabs dims) (whole_slabs dims) refl)
+alike_none dims [] (slab ∷ second) none empty = absurd (omega (arith, eqb-true (length (slab ∷ second)) 0 empty))
+alike_none dims (slab ∷ first) second none empty = absurd (omega (arith, eqb-true (length (slab ∷ first)) 0 none))
+
+pub alike_first : (dims : List Dim) (first second : List Slab) → (length first == 0) ≡ true
+    → (length second == 0) ≡ false → pointwise is_same_slab second (whole_slabs dims)
+    ≡ pointwise is_same_slab (or_whole dims first) (or_whole dims second)
+alike_first dims [] [] none some = absurd (true≢false some)
+alike_first dims [] (slab ∷ second) none some = swapped (slab ∷ second) (whole_slabs dims)
+alike_first dims (slab ∷ first) second none some = absurd (omega (arith, eqb-true (length (slab ∷ first)) 0 none))
+
+pub alike_second : (dims : List Dim) (first second : List Slab) → (length first == 0) ≡ false
+    → (length second == 0) ≡ true → pointwise is_same_slab first (whole_slabs dims)
+    ≡ pointwise is_same_slab (or_whole dims first) (or_whole dims second)
+alike_second dims [] second some none = absurd (true≢false some)
+alike_second dims (slab ∷ first) [] some none = refl
+alike_second dims (slab ∷ first) (other ∷ second) some none =
+    absurd (omega (arith, eqb-true (length (other ∷ second)) 0 none))
+
+-- slabs that stand there are those in full
+pub some_whole : (dims : List Dim) (slabs : List Slab) → (length slabs == 0) ≡ false → or_whole dims slabs ≡ slabs
+some_whole dims [] some = absurd (true≢false some)
+some_whole dims (slab ∷ slabs) some = refl
+
+pub ruleset alike = (alike_none, alike_first, alike_second, some_whole)
 
 -- three lists of slabs: where the first two differ, the third differs from one of them
 third : (a b c : List Slab)

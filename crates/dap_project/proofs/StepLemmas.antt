@@ -148,14 +148,6 @@ unfolding noted_decls
 decls_end done whole decls notes at past is =
     all_of done _ whole is (ap (λ d. noted_decls d (drop at notes)) (drop_all at decls past))
 
-pub ruleset cuts = (cut_step, cut_end, cut_short)
-
-pub ruleset sent = (sent_step, sent_end)
-
-pub ruleset noted = (noted_step, noted_end)
-
-pub ruleset decls = (decl_step, decls_end)
-
 -- the item at an index
 pub item_at : {A : Type 0} (xs : List A) (at : ℕ) (x : A) → at < length xs → x ≡ get_or xs at x
     → slice_get xs at ≡ Some x

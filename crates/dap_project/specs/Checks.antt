@@ -1,5 +1,5 @@
 -- What a check of a clause returns, and which slabs can be cut.
-use Rattle.std.specs.Prelude.{IsFalse, get_or, ◌≡◌, ◌⊎◌, ◌-◌, ◌≤◌, ◌<◌, ◌^◌, ℕ, List, All, Option, Some, None, Result, Ok, Err, slice_get}
+use Rattle.std.specs.Prelude.{IsFalse, get_or, length, ◌≡◌, ◌⊎◌, ◌-◌, ◌≤◌, ◌<◌, ◌^◌, ℕ, List, All, Option, Some, None, Result, Ok, Err, slice_get}
 use Rattle.fm_base.specs.declared.fail.Fail.{Fail}
 use Rattle.fm_base.specs.declared.fail.Fail.TheVariants as fails
 use Rattle.nc_model.specs.declared.header.Dim.{Dim}
@@ -8,9 +8,10 @@ use Rattle.dap_model.specs.declared.declaration.Array.{Array}
 use Rattle.dap_model.specs.declared.projection.Clause.{Clause}
 use Rattle.dap_model.specs.declared.projection.Slab.{Slab}
 use Rattle.dap_model.specs.declared.declaration.Decl.{Decl}
-use Rattle.dap_model.specs.Picking.{given_by, parts_of}
-use Rattle.dap_project.specs.Notes.{slots_differ}
+use Rattle.dap_model.specs.Picking.{decl_named, given_by, parts_of, picked_by}
+use Rattle.dap_project.specs.Notes.{picked_of, slots_differ}
 use Rattle.dap_project.specs.declared.note.Note.{Note}
+use Rattle.dap_project.specs.declared.picked.Named.{Named}
 use Rattle.dap_project.specs.declared.slot.Slot.{Slot}
 use Rattle.dap_project.specs.declared.slot.Slot.TheVariants.{Free, Taken}
 
@@ -24,10 +25,17 @@ Finds fault (Err (fails.Fault found)) = fault ≡ Some found
 abbrev pub Agrees : Decl → Clause → Note → Type 0
 Agrees decl clause note = IsFalse (slots_differ (λ part. given_by decl clause part) 0 note.slots)
 
--- it gives none to a part of the declaration at an index
-abbrev pub AgreesAt : List Decl → List Note → Clause → ℕ → Type 0
-AgreesAt decls notes clause at =
-    (decl : Decl) (note : Note) → decl ≡ get_or decls at decl → note ≡ get_or notes at note → Agrees decl clause note
+-- the first declaration that a path names, or names a part of, and what the path picks of it
+pub record IsNamed (decls : List Decl) (path : List (List ℕ)) (named : Named) : Type 0 where
+  pub within : named.at < length decls
+  pub decl : slice_get decls named.at ≡ decl_named decls path
+  pub choice : (decl : Decl) → decl ≡ get_or decls named.at decl → picked_of named.choice ≡ picked_by decl path
+
+-- what a clause picks of the declaration at an index, where it gives no part other slabs than its note has
+pub record IsChecked (decls : List Decl) (notes : List Note) (clause : Clause) (named : Named) : Type 0 where
+  pub choice : (decl : Decl) → decl ≡ get_or decls named.at decl → picked_of named.choice ≡ picked_by decl clause.path
+  pub agrees : (decl : Decl) (note : Note) → decl ≡ get_or decls named.at decl → note ≡ get_or notes named.at note
+      → Agrees decl clause note
 
 -- a slab has a stride, and its count fits 64 bits
 pub record IsCountable (slab : Slab) : Type 0 where

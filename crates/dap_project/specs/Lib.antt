@@ -1,5 +1,6 @@
 pub mod All
 pub mod Buckets
 pub mod Checks
+pub mod Full
 pub mod Notes
 pub mod Noted

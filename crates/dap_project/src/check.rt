@@ -4,12 +4,13 @@ ghost use Rattle.dap_model.specs.ClauseFaults as spec;
 ghost use Rattle.dap_model.specs.Picking as picking;
 ghost use Rattle.dap_model.specs.declared.projection.Clause as clauses;
 ghost use Rattle.dap_project.specs.Buckets.{indices_for};
-ghost use Rattle.dap_project.specs.Checks.{Agrees, AgreesAt, Finds, HasCountable, IsCountable};
+ghost use Rattle.dap_project.specs.Checks.{Agrees, Finds, HasCountable, IsChecked, IsCountable};
+ghost use Rattle.dap_project.specs.Full.{full_note, full_notes};
 ghost use Rattle.dap_project.specs.Notes.{note_of, picked_of};
 
 use crate::note::{Note, slots_differ};
 use crate::part::picked_dims;
-use crate::picked::{Choice, index_named, name_of, picked_by};
+use crate::picked::{Choice, Named, index_named, name_of};
 use dap_model::{Clause, Decl, ProjectFault, Slab};
 use fm_base::{Bytes, Fail, List, NoMemory};
 use nc_model::Dim;
@@ -95,8 +96,8 @@ fn check_conflict(
     choice: Choice,
 ) -> Result<(), Fail<ProjectFault>>
     requires { picked_of choice ≡ picking.picked_by decl.now clause.now.path }
-    ensures agrees { OnOk result (Agrees decl.now clause.now note.now) }
-    ensures fault { (earlier : List clauses.Clause) → note.now ≡ note_of earlier decl.now
+    ensures agrees { OnOk result (Agrees decl.now clause.now (full_note decl.now note.now)) }
+    ensures fault { (earlier : List clauses.Clause) → full_note decl.now note.now ≡ note_of earlier decl.now
         → Finds (spec.conflict_fault decl.now earlier clause.now) result }
 {
     if slots_differ(decl, clause.slabs.as_slice(), choice, note.slots.as_slice()) {
@@ -113,23 +114,23 @@ fn check_decl(
     decl: &Decl,
     note: &Note,
     clause: &Clause,
+    choice: Choice,
 ) -> Result<(), Fail<ProjectFault>>
-    ensures fault { (earlier : List clauses.Clause) → note.now ≡ note_of earlier decl.now
+    requires { picked_of choice ≡ picking.picked_by decl.now clause.now.path }
+    ensures fault { (earlier : List clauses.Clause) → full_note decl.now note.now ≡ note_of earlier decl.now
         → Finds (spec.decl_fault decl.now earlier clause.now) result }
     ensures countable { OnOk result (HasCountable clause.now) }
-    ensures agrees { OnOk result (Agrees decl.now clause.now note.now) }
+    ensures agrees { OnOk result (Agrees decl.now clause.now (full_note decl.now note.now)) }
 {
     let path = clause.path.as_slice();
     let slabs = clause.slabs.as_slice();
-    let choice = picked_by(decl, path);
     let dims = picked_dims(decl, choice);
     check_rank(alloc, path, dims, slabs)?;
     check_range(alloc, path, dims, slabs)?;
     check_conflict(alloc, decl, note, clause, choice)
 }
 
-// The first fault of a clause, which may pick something of the declarations at these indices alone, or the index of the
-// declaration that it names.
+// The first fault of a clause, which may pick something of the declarations at these indices alone, or what it names.
 #[tactic(auto, unfolding(dap_model::specs::ClauseFaults::clause_fault))]
 pub(crate) fn check_clause(
     alloc: Global,
@@ -137,19 +138,22 @@ pub(crate) fn check_clause(
     indices: &[usize],
     notes: &[Note],
     clause: &Clause,
-) -> Result<usize, Fail<ProjectFault>>
+) -> Result<Named, Fail<ProjectFault>>
     requires count { length notes.now ≡ length decls.now }
     requires indices { indices.now ≡ indices_for decls.now clause.now.path }
-    ensures fault { (earlier : List clauses.Clause) → notes.now ≡ map (note_of earlier) decls.now
+    ensures fault { (earlier : List clauses.Clause) → full_notes decls.now notes.now ≡ map (note_of earlier) decls.now
         → Finds (spec.clause_fault decls.now earlier clause.now) result }
     ensures countable { OnOk result (HasCountable clause.now) }
-    ensures agrees { IfOk result (AgreesAt decls.now notes.now clause.now) }
+    ensures checked { IfOk result (IsChecked decls.now (full_notes decls.now notes.now) clause.now) }
 {
     match index_named(decls, indices, clause.path.as_slice()) {
-        Some(at) => match check_decl(alloc, &decls[at], &notes[at], clause) {
-            Ok(()) => Ok(at),
-            Err(fail) => Err(fail),
-        },
+        Some(named) => {
+            let at = named.at;
+            match check_decl(alloc, &decls[at], &notes[at], clause, named.choice) {
+                Ok(()) => Ok(named),
+                Err(fail) => Err(fail),
+            }
+        }
         None => {
             let name = path_text(alloc, clause.path.as_slice())?;
             Err(Fail::Fault(ProjectFault::NoSuchVariable(name)))

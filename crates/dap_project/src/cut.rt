@@ -2,6 +2,7 @@
 ghost use Rattle.std.specs.Prelude.{◌≡◌, IfOk, map};
 ghost use Rattle.std.specs.List.{zip};
 ghost use Rattle.dap_model.specs.Box as boxes;
+ghost use Rattle.dap_model.specs.Picking.{or_whole};
 ghost use Rattle.dap_model.specs.Projection as spec;
 ghost use Rattle.dap_project.specs.Checks.{AreCuts, IsCut};
 
@@ -44,13 +45,39 @@ pub fn cut_dims(alloc: Global, dims: &[Dim], slabs: &[Slab]) -> Result<List<Dim>
     Ok(cut)
 }
 
-// An array with the lengths that slabs leave.
+// Dimensions as they are.
+fn copied_dims(alloc: Global, dims: &[Dim]) -> Result<List<Dim>, NoMemory>
+    ensures { IfOk result (λ copy. copy ≡ dims.now) }
+{
+    let items = Vec::with_capacity(alloc, dims.len())?;
+    let mut copy = List { items };
+    for dim in dims {
+        let name = Bytes::copy_of(alloc, dim.name.as_slice())?;
+        let size = dim.size;
+        copy.push(Dim { name, size })?;
+    }
+    Ok(copy)
+}
+
+// Dimensions as long as slabs leave them. None stand for the whole of each dimension.
+#[tactic(auto, using(crate::proofs::CutLemmas::whole_cut, crate::proofs::SlotLemmas::some_whole))]
+fn cut_or_copied(alloc: Global, dims: &[Dim], slabs: &[Slab]) -> Result<List<Dim>, NoMemory>
+    requires { AreCuts dims.now (or_whole dims.now slabs.now) }
+    ensures { IfOk result (λ cut. cut ≡ map spec.cut_dim (zip dims.now (or_whole dims.now slabs.now))) }
+{
+    if slabs.is_empty() {
+        return copied_dims(alloc, dims);
+    }
+    cut_dims(alloc, dims, slabs)
+}
+
+// An array with the lengths that slabs leave. None stand for the whole of each dimension.
 #[tactic(auto, unfolding(dap_model::specs::Projection::cut_array))]
 pub(crate) fn cut_array(alloc: Global, array: &Array, slabs: &[Slab]) -> Result<Array, NoMemory>
-    requires { AreCuts array.now.dims slabs.now }
-    ensures { IfOk result (λ cut. cut ≡ spec.cut_array slabs.now array.now) }
+    requires { AreCuts array.now.dims (or_whole array.now.dims slabs.now) }
+    ensures { IfOk result (λ cut. cut ≡ spec.cut_array (or_whole array.now.dims slabs.now) array.now) }
 {
-    let dims = cut_dims(alloc, array.dims.as_slice(), slabs)?;
+    let dims = cut_or_copied(alloc, array.dims.as_slice(), slabs)?;
     let name = Bytes::copy_of(alloc, array.name.as_slice())?;
     Ok(Array {
         name,

@@ -2,14 +2,15 @@
 ghost use Rattle.std.specs.Prelude.{◌≡◌, IfOk, IsFalse, IsTrue, OnOk, length, map, None};
 ghost use Rattle.dap_model.specs.Picking as picking;
 ghost use Rattle.dap_project.specs.Buckets.{indices_for};
-ghost use Rattle.dap_project.specs.Checks.{Agrees, AgreesAt};
+ghost use Rattle.dap_project.specs.Checks.{Agrees, IsChecked};
+ghost use Rattle.dap_project.specs.Full.{full_note, full_notes, full_slots};
 ghost use Rattle.dap_project.specs.Notes as spec;
 
 use crate::part::part_count;
-use crate::picked::{Choice, is_every, is_picked, picked_by};
+use crate::picked::{Choice, Named, is_every, is_picked, picked_by};
 use crate::slot::{Slot, slot_differs};
 use dap_model::{Clause, Decl, Slab};
-use fm_base::{List, NoMemory};
+use fm_base::{Bytes, List, NoMemory};
 use std::alloc::Global;
 
 // What the clauses so far ask of a declaration: whether one picks it or a part of it, whether one picks all of it, and
@@ -46,9 +47,11 @@ fn note_slots(
     agrees: bool,
 ) -> Result<(), NoMemory>
     requires { IsTrue agrees → IsFalse (spec.slots_differ
-        (λ part. picking.slabs_for decl.now slabs.now part (spec.picked_of choice)) 0 slots.old) }
-    ensures { OnOk result (slots.new ≡ spec.slots_after
-        (λ part. picking.slabs_for decl.now slabs.now part (spec.picked_of choice)) 0 slots.old) }
+        (λ part. picking.slabs_for decl.now slabs.now part (spec.picked_of choice)) 0
+        (full_slots decl.now slots.old)) }
+    ensures { OnOk result (full_slots decl.now slots.new ≡ spec.slots_after
+        (λ part. picking.slabs_for decl.now slabs.now part (spec.picked_of choice)) 0
+        (full_slots decl.now slots.old)) }
 {
     for part in 0..slots.len() {
         slots[part].add(alloc, decl, slabs, part, choice, agrees)?;
@@ -59,7 +62,8 @@ fn note_slots(
 // Whether a clause gives some part of a declaration other slabs than an earlier clause did.
 pub(crate) fn slots_differ(decl: &Decl, slabs: &[Slab], choice: Choice, slots: &[Slot]) -> bool
     ensures { result ≡ spec.slots_differ
-        (λ part. picking.slabs_for decl.now slabs.now part (spec.picked_of choice)) 0 slots.now }
+        (λ part. picking.slabs_for decl.now slabs.now part (spec.picked_of choice)) 0
+        (full_slots decl.now slots.now) }
 {
     for part in 0..slots.len() {
         if slot_differs(&slots[part], decl, slabs, part, choice) {
@@ -83,20 +87,22 @@ impl Note {
         })
     }
 
-    // Notes what a clause asks of the declaration. Most clauses ask nothing of it. `agrees`: the caller knows that no
-    // part has other slabs.
+    // Notes what a clause asks of the declaration of which it picks this. `agrees`: the caller knows that no part has
+    // other slabs.
     #[tactic(auto, unfolding(crate::specs::Notes::note_after, dap_model::specs::Picking::given_by))]
     pub(crate) fn add(
         &mut self,
         alloc: Global,
         decl: &Decl,
         clause: &Clause,
+        choice: Choice,
         agrees: bool,
     ) -> Result<(), NoMemory>
-        requires { IsTrue agrees → Agrees decl.now clause.now self.old }
-        ensures { OnOk result (self.new ≡ spec.note_after decl.now clause.now self.old) }
+        requires picked { spec.picked_of choice ≡ picking.picked_by decl.now clause.now.path }
+        requires agrees { IsTrue agrees → Agrees decl.now clause.now (full_note decl.now self.old) }
+        ensures { OnOk result (full_note decl.now self.new
+            ≡ spec.note_after decl.now clause.now (full_note decl.now self.old)) }
     {
-        let choice = picked_by(decl, clause.path.as_slice());
         if !is_picked(choice) {
             return Ok(());
         }
@@ -121,23 +127,38 @@ pub(crate) fn fresh_notes(alloc: Global, decls: &[Decl]) -> Result<List<Note>, N
     Ok(notes)
 }
 
-// Notes what a clause asks of each declaration. It may pick something of those at these indices alone. It was checked
-// on one of them: no part of that has other slabs.
+// What a path picks of a declaration, which may be known.
+fn choice_on(decl: &Decl, path: &[Bytes], known: bool, choice: Choice) -> Choice
+    requires { IsTrue known → spec.picked_of choice ≡ picking.picked_by decl.now path.now }
+    ensures { spec.picked_of result ≡ picking.picked_by decl.now path.now }
+{
+    if known {
+        return choice;
+    }
+    picked_by(decl, path)
+}
+
+// Notes what a clause asks of each declaration. It may pick something of those at these indices alone. On one of them it
+// was checked: what it picks of that is known, and no part of that has other slabs.
 pub(crate) fn note_clause(
     alloc: Global,
     decls: &[Decl],
     indices: &[usize],
     notes: &mut [Note],
     clause: &Clause,
-    checked: usize,
+    checked: Named,
 ) -> Result<(), NoMemory>
     requires count { length notes.old ≡ length decls.now }
     requires indices { indices.now ≡ indices_for decls.now clause.now.path }
-    requires checked { AgreesAt decls.now notes.old clause.now checked }
-    ensures { OnOk result (notes.new ≡ spec.notes_after clause.now decls.now notes.old) }
+    requires checked { IsChecked decls.now (full_notes decls.now notes.old) clause.now checked }
+    ensures { OnOk result (full_notes decls.now notes.new
+        ≡ spec.notes_after clause.now decls.now (full_notes decls.now notes.old)) }
 {
     for at in indices {
-        notes[*at].add(alloc, &decls[*at], clause, *at == checked)?;
+        let decl = &decls[*at];
+        let known = *at == checked.at;
+        let choice = choice_on(decl, clause.path.as_slice(), known, checked.choice);
+        notes[*at].add(alloc, decl, clause, choice, known)?;
     }
     Ok(())
 }

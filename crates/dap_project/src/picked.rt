@@ -1,9 +1,10 @@
 //! What a path picks of a declaration.
-ghost use Rattle.std.specs.Prelude.{◌≡◌, ◌<◌, ◌≤◌, length, MatchOption, None, slice_get};
+ghost use Rattle.std.specs.Prelude.{◌≡◌, ◌≤◌, length, MatchOption, None};
 ghost use Rattle.std.specs.List.{position_or_len};
 ghost use Rattle.std.specs.Str.{bytes_eq};
 ghost use Rattle.dap_model.specs.Picking as spec;
 ghost use Rattle.dap_project.specs.Buckets.{indices_for};
+ghost use Rattle.dap_project.specs.Checks.{IsNamed};
 ghost use Rattle.dap_project.specs.Notes.{picked_of};
 
 use dap_model::{Array, Decl};
@@ -15,6 +16,13 @@ pub(crate) enum Choice {
     Nothing,
     Every,
     Only(usize),
+}
+
+// The index of the first declaration that a path names, or names a part of, and what the path picks of it.
+#[derive(Clone, Copy)]
+pub(crate) struct Named {
+    pub(crate) at: usize,
+    pub(crate) choice: Choice,
 }
 
 // The name of a declaration.
@@ -119,15 +127,16 @@ pub(crate) fn is_every(choice: Choice) -> bool
     }
 }
 
-// The index of the first declaration that a path names, or names a part of, which is one of these.
-pub(crate) fn index_named(decls: &[Decl], indices: &[usize], path: &[Bytes]) -> Option<usize>
+// The first declaration that a path names, or names a part of. Its index is one of these.
+pub(crate) fn index_named(decls: &[Decl], indices: &[usize], path: &[Bytes]) -> Option<Named>
     requires { indices.now ≡ indices_for decls.now path.now }
     ensures { MatchOption result (spec.decl_named decls.now path.now ≡ None)
-        (λ at. (at < length decls.now) × (slice_get decls.now at ≡ spec.decl_named decls.now path.now)) }
+        (IsNamed decls.now path.now) }
 {
     for at in indices {
-        if is_picked(picked_by(&decls[*at], path)) {
-            return Some(*at);
+        let choice = picked_by(&decls[*at], path);
+        if is_picked(choice) {
+            return Some(Named { at: *at, choice });
         }
     }
     None

@@ -1,11 +1,12 @@
 //! The projection of a dataset.
 ghost use Rattle.std.specs.Prelude.{◌≡◌, [], List, All, OnOk, length, map};
-ghost use Rattle.fm_base.specs.Answer.{Answers};
+ghost use Rattle.fm_base.specs.Answer.{Answers, AnswersAs};
 ghost use Rattle.dap_model.specs.ClauseFaults.{clause_fault, first_fault};
 ghost use Rattle.dap_model.specs.Projection.{projection_of};
 ghost use Rattle.dap_model.specs.declared.projection.Clause as clauses;
 ghost use Rattle.dap_project.specs.Buckets.{AreBuckets};
 ghost use Rattle.dap_project.specs.Checks.{Finds, HasCountable};
+ghost use Rattle.dap_project.specs.Full.{full_notes};
 ghost use Rattle.dap_project.specs.Noted.{notes_or_fault};
 ghost use Rattle.dap_project.specs.Notes.{note_for, note_of, notes_after};
 
@@ -28,9 +29,10 @@ fn add_clause(
 ) -> Result<(), Fail<ProjectFault>>
     requires count { length notes.old ≡ length decls.now }
     requires index { AreBuckets decls.now index.now.buckets }
-    ensures fault { (earlier : List clauses.Clause) → notes.old ≡ map (note_of earlier) decls.now
+    ensures fault { (earlier : List clauses.Clause) → full_notes decls.now notes.old ≡ map (note_of earlier) decls.now
         → Finds (clause_fault decls.now earlier clause.now) result }
-    ensures notes { OnOk result (notes.new ≡ notes_after clause.now decls.now notes.old) }
+    ensures notes { OnOk result (full_notes decls.now notes.new
+        ≡ notes_after clause.now decls.now (full_notes decls.now notes.old)) }
     ensures countable { OnOk result (HasCountable clause.now) }
 {
     let indices = index.indices(clause.path.as_slice());
@@ -46,7 +48,7 @@ fn notes_of(
     decls: &[Decl],
     clauses: &[Clause],
 ) -> Result<List<Note>, Fail<ProjectFault>>
-    ensures notes { Answers (notes_or_fault (map (note_of clauses.now) decls.now)
+    ensures notes { AnswersAs (full_notes decls.now) (notes_or_fault (map (note_of clauses.now) decls.now)
         (first_fault decls.now [] clauses.now)) result }
     ensures countable { OnOk result (All HasCountable clauses.now) }
 {
@@ -64,7 +66,7 @@ fn notes_for(
     decls: &[Decl],
     clauses: &[Clause],
 ) -> Result<List<Note>, Fail<ProjectFault>>
-    ensures notes { Answers (notes_or_fault (map (note_for clauses.now) decls.now)
+    ensures notes { AnswersAs (full_notes decls.now) (notes_or_fault (map (note_for clauses.now) decls.now)
         (first_fault decls.now [] clauses.now)) result }
     ensures countable { OnOk result (All HasCountable clauses.now) }
 {

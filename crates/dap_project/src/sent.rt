@@ -3,16 +3,19 @@ ghost use Rattle.std.specs.Prelude.{◌≡◌, ◌++◌, IfOk, OnOk, length, All
 ghost use Rattle.dap_model.specs.Picking.{parts_of};
 ghost use Rattle.dap_model.specs.Projection.{rebuilt};
 ghost use Rattle.dap_project.specs.Checks.{AllCanBeCut, CanBeCut, IsSlotCut};
+ghost use Rattle.dap_project.specs.Full.{full_note, full_notes, full_slot, full_slots};
 ghost use Rattle.dap_project.specs.Noted as spec;
 
 use crate::cut::cut_array;
 use crate::note::Note;
+use crate::part::part_dims;
 use crate::picked::name_of;
 use crate::shared::{part_before, slabs_shared};
 use crate::slot::Slot;
 use dap_model::{Array, Decl, Projected, Sent};
 use dap_slab::part_of;
 use fm_base::{Bytes, List, NoMemory};
+use nc_model::Dim;
 use std::alloc::Global;
 
 // Adds a part whose slot is taken, as an array.
@@ -22,8 +25,8 @@ fn add_cut(
     slot: &Slot,
     parts: &mut List<Array>,
 ) -> Result<(), NoMemory>
-    requires { IsSlotCut array.now slot.now }
-    ensures { OnOk result (parts.new ≡ parts.old ++ spec.cut_of array.now slot.now) }
+    requires { IsSlotCut array.now (full_slot array.now.dims slot.now) }
+    ensures { OnOk result (parts.new ≡ parts.old ++ spec.cut_of array.now (full_slot array.now.dims slot.now)) }
 {
     match slot {
         Slot::Free => Ok(()),
@@ -32,10 +35,9 @@ fn add_cut(
 }
 
 // The parts of a declaration whose slots are taken, as arrays, with room for as many as there are slots.
-#[tactic(auto, using(crate::proofs::StepLemmas::cuts))]
 fn cut_parts(alloc: Global, decl: &Decl, slots: &[Slot]) -> Result<List<Array>, NoMemory>
-    requires { CanBeCut (parts_of decl.now) slots.now }
-    ensures { IfOk result (λ parts. parts ≡ spec.cut_slots (parts_of decl.now) slots.now) }
+    requires { CanBeCut (parts_of decl.now) (full_slots decl.now slots.now) }
+    ensures { IfOk result (λ parts. parts ≡ spec.cut_slots (parts_of decl.now) (full_slots decl.now slots.now)) }
 {
     let items = Vec::with_capacity(alloc, slots.len())?;
     let mut parts = List { items };
@@ -76,8 +78,8 @@ fn rebuilt(alloc: Global, every: bool, decl: &Decl, parts: List<Array>) -> Resul
 // A declaration as it is sent.
 #[tactic(auto, unfolding(crate::specs::Noted::noted_decl))]
 fn decl_sent(alloc: Global, decl: &Decl, note: &Note) -> Result<Decl, NoMemory>
-    requires { CanBeCut (parts_of decl.now) note.now.slots }
-    ensures { IfOk result (λ sent. sent ≡ spec.noted_decl decl.now note.now) }
+    requires { CanBeCut (parts_of decl.now) (full_slots decl.now note.now.slots) }
+    ensures { IfOk result (λ sent. sent ≡ spec.noted_decl decl.now (full_note decl.now note.now)) }
 {
     let parts = cut_parts(alloc, decl, note.slots.as_slice())?;
     rebuilt(alloc, note.every, decl, parts)
@@ -85,8 +87,8 @@ fn decl_sent(alloc: Global, decl: &Decl, note: &Note) -> Result<Decl, NoMemory>
 
 // Adds a declaration, where something of it is picked.
 fn add_decl(alloc: Global, decl: &Decl, note: &Note, sent: &mut List<Decl>) -> Result<(), NoMemory>
-    requires { CanBeCut (parts_of decl.now) note.now.slots }
-    ensures { OnOk result (sent.new ≡ sent.old ++ spec.decl_of decl.now note.now) }
+    requires { CanBeCut (parts_of decl.now) (full_slots decl.now note.now.slots) }
+    ensures { OnOk result (sent.new ≡ sent.old ++ spec.decl_of decl.now (full_note decl.now note.now)) }
 {
     if note.picked {
         sent.push(decl_sent(alloc, decl, note)?)?;
@@ -95,11 +97,10 @@ fn add_decl(alloc: Global, decl: &Decl, note: &Note, sent: &mut List<Decl>) -> R
 }
 
 // The declarations that are sent.
-#[tactic(auto, using(crate::proofs::StepLemmas::decls))]
 fn decls_sent(alloc: Global, decls: &[Decl], notes: &[Note]) -> Result<List<Decl>, NoMemory>
     requires count { length notes.now ≡ length decls.now }
-    requires cuts { AllCanBeCut decls.now notes.now }
-    ensures { IfOk result (λ sent. sent ≡ spec.noted_decls decls.now notes.now) }
+    requires cuts { AllCanBeCut decls.now (full_notes decls.now notes.now) }
+    ensures { IfOk result (λ sent. sent ≡ spec.noted_decls decls.now (full_notes decls.now notes.now)) }
 {
     let mut sent = List::new(alloc);
     for at in 0..notes.len() {
@@ -108,17 +109,18 @@ fn decls_sent(alloc: Global, decls: &[Decl], notes: &[Note]) -> Result<List<Decl
     Ok(sent)
 }
 
-// Adds a part whose slot is taken, of a declaration of `count` parts, by the index of the declaration and its own
-// number.
+// Adds a part of these dimensions whose slot is taken, of a declaration of `count` parts, by the index of the
+// declaration and its own number.
 fn add_part(
     alloc: Global,
     decl: u32,
     at: usize,
     count: usize,
+    dims: &[Dim],
     slot: &Slot,
     sent: &mut List<Sent>,
 ) -> Result<(), NoMemory>
-    ensures { OnOk result (sent.new ≡ sent.old ++ spec.sent_of_slot decl at slot.now) }
+    ensures { OnOk result (sent.new ≡ sent.old ++ spec.sent_of_slot decl at (full_slot dims.now slot.now)) }
 {
     match slot {
         Slot::Free => Ok(()),
@@ -127,39 +129,46 @@ fn add_part(
                 return Err(NoMemory);
             };
             let earlier = part_before(sent.as_slice(), count);
-            let slabs = slabs_shared(alloc, slabs.as_slice(), earlier)?;
+            let slabs = slabs_shared(alloc, dims, slabs.as_slice(), earlier)?;
             sent.push(Sent { decl, part, slabs })
         }
     }
 }
 
 // Adds the parts of a declaration whose slots are taken, by the index of the declaration.
-#[tactic(auto, using(crate::proofs::StepLemmas::sent))]
 fn add_parts(
     alloc: Global,
-    decl: u32,
+    index: u32,
+    decl: &Decl,
     slots: &[Slot],
     sent: &mut List<Sent>,
 ) -> Result<(), NoMemory>
-    ensures { OnOk result (sent.new ≡ sent.old ++ spec.sent_slots decl 0 slots.now) }
+    ensures { OnOk result (sent.new ≡ sent.old ++ spec.sent_slots index 0 (full_slots decl.now slots.now)) }
 {
     for at in 0..slots.len() {
-        add_part(alloc, decl, at, slots.len(), &slots[at], sent)?;
+        let dims = part_dims(decl, at);
+        add_part(alloc, index, at, slots.len(), dims, &slots[at], sent)?;
     }
     Ok(())
 }
 
 // The parts that are sent.
-#[tactic(auto, using(crate::proofs::StepLemmas::noted))]
-fn parts_sent(alloc: Global, notes: &[Note]) -> Result<List<Sent>, NoMemory>
-    ensures { IfOk result (λ sent. sent ≡ spec.noted_sent 0 notes.now) }
+fn parts_sent(alloc: Global, decls: &[Decl], notes: &[Note]) -> Result<List<Sent>, NoMemory>
+    requires { length notes.now ≡ length decls.now }
+    ensures { IfOk result (λ sent. sent ≡ spec.noted_sent 0 (full_notes decls.now notes.now)) }
 {
     let mut sent = List::new(alloc);
     for at in 0..notes.len() {
-        let Ok(decl) = u32::try_from(at) else {
+        let Ok(index) = u32::try_from(at) else {
             return Err(NoMemory);
         };
-        add_parts(alloc, decl, notes[at].slots.as_slice(), &mut sent)?;
+        add_parts(
+            alloc,
+            index,
+            &decls[at],
+            notes[at].slots.as_slice(),
+            &mut sent,
+        )?;
     }
     Ok(sent)
 }
@@ -167,10 +176,10 @@ fn parts_sent(alloc: Global, notes: &[Note]) -> Result<List<Sent>, NoMemory>
 // What is sent for notes. Where a part's number doesn't fit 32 bits, memory is said to have run out.
 pub(crate) fn all_sent(alloc: Global, decls: &[Decl], notes: &[Note]) -> Result<Projected, NoMemory>
     requires count { length notes.now ≡ length decls.now }
-    requires cuts { AllCanBeCut decls.now notes.now }
-    ensures { IfOk result (λ sent. sent ≡ spec.noted_all decls.now notes.now) }
+    requires cuts { AllCanBeCut decls.now (full_notes decls.now notes.now) }
+    ensures { IfOk result (λ sent. sent ≡ spec.noted_all decls.now (full_notes decls.now notes.now)) }
 {
-    let sent = parts_sent(alloc, notes)?;
+    let sent = parts_sent(alloc, decls, notes)?;
     let decls = decls_sent(alloc, decls, notes)?;
     Ok(Projected { decls, sent })
 }

@@ -1,6 +1,6 @@
 //! Slabs that parts share.
 ghost use Rattle.std.specs.Prelude.{◌≡◌, IfOk, IsTrue};
-ghost use Rattle.dap_model.specs.Picking.{whole_slabs};
+ghost use Rattle.dap_model.specs.Picking.{or_whole, whole_slabs};
 
 use crate::slabs::{are_whole, whole_slabs};
 use dap_model::{Sent, Slab};
@@ -33,14 +33,18 @@ fn are_all(dims: &[Dim], slabs: &[Slab]) -> bool
     are_whole(dims, slabs)
 }
 
-// These slabs, shared with an earlier part that has the same.
+// These slabs, shared with an earlier part that has the same. None stand for the whole of each dimension.
 pub(crate) fn slabs_shared(
     alloc: Global,
+    dims: &[Dim],
     slabs: &[Slab],
     earlier: Option<&Sent>,
 ) -> Result<Arc<List<Slab>>, NoMemory>
-    ensures { IfOk result (λ list. list ≡ slabs.now) }
+    ensures { IfOk result (λ list. list ≡ or_whole dims.now slabs.now) }
 {
+    if slabs.is_empty() {
+        return whole_shared(alloc, dims, earlier);
+    }
     if let Some(part) = earlier {
         if are_same(part.slabs(), slabs) {
             return part.slabs.share();

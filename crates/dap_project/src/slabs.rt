@@ -1,15 +1,14 @@
 //! The slabs that a clause gives to the parts of a declaration.
-ghost use Rattle.std.specs.Prelude.{◌≡◌, IfOk};
+ghost use Rattle.std.specs.Prelude.{◌≡◌, IfOk, MatchOption, None, Some};
 ghost use Rattle.std.specs.Cmp.Lexicographic.{pointwise};
-ghost use Rattle.std.specs.Option.{option_map};
 ghost use Rattle.dap_model.specs.Box as boxes;
 ghost use Rattle.dap_model.specs.ClauseFaults.{is_same_slab};
 ghost use Rattle.dap_model.specs.Picking as spec;
+ghost use Rattle.dap_model.specs.declared.declaration.Decl as declarations;
 ghost use Rattle.dap_project.specs.Notes.{picked_of};
 
-use crate::part::part_dims;
 use crate::picked::Choice;
-use dap_model::{Decl, Slab};
+use dap_model::Slab;
 use fm_base::{List, NoMemory};
 use nc_model::Dim;
 use std::alloc::Global;
@@ -47,17 +46,6 @@ pub(crate) fn whole_slabs(alloc: Global, dims: &[Dim]) -> Result<List<Slab>, NoM
     Ok(slabs)
 }
 
-// These slabs, or the whole of each dimension where there are none.
-fn or_whole(alloc: Global, dims: &[Dim], slabs: &[Slab]) -> Result<List<Slab>, NoMemory>
-    ensures { IfOk result (λ list. list ≡ spec.or_whole dims.now slabs.now) }
-{
-    if slabs.is_empty() {
-        return whole_slabs(alloc, dims);
-    }
-    let items = Vec::from_slice(alloc, slabs)?;
-    Ok(List { items })
-}
-
 // Whether two slabs are the same.
 fn is_same(slab: Slab, other: Slab) -> bool
     ensures { result ≡ is_same_slab slab other }
@@ -80,14 +68,17 @@ pub(crate) fn are_whole(dims: &[Dim], slabs: &[Slab]) -> bool
     true
 }
 
-// Whether slabs are these, or the whole of each dimension where these are none.
-fn are_or_whole(dims: &[Dim], given: &[Slab], slabs: &[Slab]) -> bool
-    ensures { result ≡ pointwise is_same_slab slabs.now (spec.or_whole dims.now given.now) }
+// Whether slabs for a part of these dimensions are the same. None stand for the whole of each dimension.
+#[tactic(auto, using(crate::proofs::SlotLemmas::alike))]
+pub(crate) fn are_alike(dims: &[Dim], first: &[Slab], second: &[Slab]) -> bool
+    ensures { result ≡ pointwise is_same_slab (spec.or_whole dims.now first.now) (spec.or_whole dims.now second.now) }
 {
-    if given.is_empty() {
-        return are_whole(dims, slabs);
+    match (first.is_empty(), second.is_empty()) {
+        (true, true) => true,
+        (true, false) => are_whole(dims, second),
+        (false, true) => are_whole(dims, first),
+        (false, false) => first == second,
     }
-    slabs == given
 }
 
 // What goes to a part of the slabs of a declaration.
@@ -103,52 +94,18 @@ fn spread(slabs: &[Slab], part: usize) -> &[Slab]
     }
 }
 
-// The slabs for a part, where what is picked has it.
-pub(crate) fn slabs_for(
-    alloc: Global,
-    decl: &Decl,
-    slabs: &[Slab],
-    part: usize,
-    choice: Choice,
-) -> Result<Option<List<Slab>>, NoMemory>
-    ensures { IfOk result (λ given.
-        given ≡ spec.slabs_for decl.now slabs.now part (picked_of choice)) }
-{
-    match choice {
-        Choice::Nothing => Ok(None),
-        Choice::Every => {
-            let whole = or_whole(alloc, part_dims(decl, part), spread(slabs, part))?;
-            Ok(Some(whole))
-        }
-        Choice::Only(other) => {
-            if other != part {
-                return Ok(None);
-            }
-            let whole = or_whole(alloc, part_dims(decl, part), slabs)?;
-            Ok(Some(whole))
-        }
-    }
-}
-
-// Whether the slabs for a part are these. `None` where what is picked doesn't have the part.
-pub(crate) fn is_given(
-    decl: &Decl,
-    slabs: &[Slab],
-    part: usize,
-    choice: Choice,
-    first: &[Slab],
-) -> Option<bool>
-    ensures { result ≡ option_map (pointwise is_same_slab first.now)
-        (spec.slabs_for decl.now slabs.now part (picked_of choice)) }
+// What goes to a part of the slabs of a clause, where what is picked has the part. No slabs stand for the whole of each
+// dimension.
+pub(crate) fn given_for(slabs: &[Slab], part: usize, choice: Choice) -> Option<&[Slab]>
+    ensures { (decl : declarations.Decl) → MatchOption result
+        (spec.slabs_for decl slabs.now part (picked_of choice) ≡ None)
+        (λ given. spec.slabs_for decl slabs.now part (picked_of choice)
+        ≡ Some (spec.or_whole (spec.part_dims decl part) given.now)) }
 {
     match choice {
         Choice::Nothing => None,
-        Choice::Every => Some(are_or_whole(part_dims(decl, part), spread(slabs, part), first)),
-        Choice::Only(other) => {
-            if other != part {
-                return None;
-            }
-            Some(are_or_whole(part_dims(decl, part), slabs, first))
-        }
+        Choice::Every => Some(spread(slabs, part)),
+        Choice::Only(other) if other == part => Some(slabs),
+        Choice::Only(_) => None,
     }
 }

@@ -1,6 +1,5 @@
 -- One more index is in its bucket.
 use Rattle.std.proofs.Common.{ap, arith, sym, ◌∙◌, ◌++◌, ◌∷◌, [], List, ℕ, length}
-use Rattle.dap_model.specs.Picking.{name_of}
 use Rattle.dap_project.specs.Buckets.{bucket_of}
 use Rattle.dap_project.proofs.FilledLemmas.{all_filled, filled_more, none_filled}
 use Rattle.dap_project.proofs.index.fill.Goals as goal

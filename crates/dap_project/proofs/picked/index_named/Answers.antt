@@ -1,6 +1,8 @@
 -- The declaration at the index is the first that the path names.
 use Rattle.std.proofs.Common.{rules, ◌<◌, ◌+◌, ap, arith, drop, get_or, length, refl, sym, ◌∙◌}
-use Rattle.dap_model.specs.Picking.{is_picked}
+use Rattle.std.proofs.lemmas.List.{get_or_default}
+use Rattle.dap_model.specs.Picking.{is_picked, picked_by}
+use Rattle.dap_model.specs.declared.declaration.Decl.{Decl}
 use Rattle.dap_project.proofs.BucketLemmas.{all_left, named_further, named_none, next, none_left, passed_named}
 use Rattle.dap_project.proofs.IndexLemmas.{found_here}
 use Rattle.dap_project.proofs.picked.index_named.Goals as goal
@@ -24,17 +26,23 @@ offset_bounds-decls-at c =
 
 pub returns-then-is_picked : goal.returns-then-is_picked
 returns-then-is_picked c =
+    let decls = c.args.decls.now in
+    let path = c.args.path.now in
+    let index = get_or c.args.indices.now c.loop-at.at-index 0 in
+    let decl = c.index-decls-at.result in
     let so_far = c.loop-at.invariant in
-    let here = next c.args.decls.now c.args.path.now c.args.indices.now c.loop-at.at-index 0 so_far.0
-    c.loop-at-test.true so_far.1 in (
-      here.within,
-      found_here c.args.decls.now c.args.path.now (get_or c.args.indices.now c.loop-at.at-index 0)
-          c.index-decls-at.result here.within c.index-decls-at.is
-          (sym (c.is_picked.ensures ∙ ap is_picked c.picked_by.ensures) ∙ c.if-is_picked.true)
-          ∙ sym (passed_named c.args.decls.now c.args.path.now c.args.indices.now c.loop-at.at-index _ so_far.0
-          here)
-          ∙ so_far.2,
-    )
+    let here = next decls path c.args.indices.now c.loop-at.at-index 0 so_far.0 c.loop-at-test.true so_far.1 in
+    record {
+      within = here.within;
+      decl = found_here decls path index decl here.within c.index-decls-at.is
+          (sym (c.is_picked.ensures ∙ ap is_picked c.picked_by-choice.ensures) ∙ c.if-is_picked.true)
+          ∙ sym (passed_named decls path c.args.indices.now c.loop-at.at-index _ so_far.0 here)
+          ∙ so_far.2;
+      choice = λ other is_other.
+          c.picked_by-choice.ensures
+          ∙ ap (λ (d : Decl). picked_by d path)
+          (c.index-decls-at.is ∙ get_or_default decls index decl other here.within ∙ sym is_other);
+    }
 
 pub loop-at-preserved : goal.loop-at-preserved
 loop-at-preserved c =
@@ -43,7 +51,7 @@ loop-at-preserved c =
     let index = get_or c.args.indices.now c.loop-at.at-index 0 in
     let so_far = c.loop-at.invariant in
     let here = next decls path c.args.indices.now c.loop-at.at-index 0 so_far.0 c.loop-at-test.true so_far.1 in
-    let fails = sym (c.is_picked.ensures ∙ ap is_picked c.picked_by.ensures) ∙ c.if-is_picked.false in (
+    let fails = sym (c.is_picked.ensures ∙ ap is_picked c.picked_by-choice.ensures) ∙ c.if-is_picked.false in (
       index + 1,
       here.left,
       sym (named_further decls path index c.index-decls-at.result here.within c.index-decls-at.is fails)

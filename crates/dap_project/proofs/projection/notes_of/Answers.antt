@@ -1,18 +1,21 @@
 -- A clause more is noted, and has no fault.
-use Rattle.std.proofs.Common.{All, ap, arith, map, refl, subst, sym, take, ◌∙◌}
-use Rattle.std.proofs.lemmas.List.{take_all}
+use Rattle.std.proofs.Common.{All, ap, arith, length, map, refl, subst, sym, take, ◌∙◌}
+use Rattle.std.proofs.lemmas.List.{length-map, take_all}
 use Rattle.std.proofs.lemmas.List.Elements.{All-push}
 use Rattle.std.proofs.lemmas.Result.{err_from_is_err_and}
 use Rattle.dap_project.specs.Checks.{HasCountable}
+use Rattle.dap_project.specs.Full.{full_notes}
 use Rattle.dap_project.specs.Notes.{note_of, notes_after}
 use Rattle.dap_project.proofs.FaultLemmas.{fails_at, no_fault_at, none_left}
+use Rattle.dap_project.proofs.FullLemmas.{all_fresh, length-full_notes}
 use Rattle.dap_project.proofs.NoteLemmas.{notes_after-map, notes_of-none}
 use Rattle.dap_project.proofs.IndexLemmas.{up_to}
 use Rattle.dap_project.proofs.projection.notes_of.Goals as goal
 
 pub loop-clause-init : goal.loop-clause-init
 loop-clause-init c = record {
-  notes = c.in_ok-notes.ensures ∙ notes_of-none c.args.decls.now;
+  notes = ap (full_notes c.args.decls.now) c.in_ok-notes.ensures ∙ all_fresh c.args.decls.now c.args.decls.now
+      ∙ notes_of-none c.args.decls.now;
   fault = refl;
   countable = λ k d below. absurd (omega (arith, below));
 }
@@ -50,7 +53,8 @@ returns-in_err-add_clause-clause-notes c =
 
 pub returns-clause-notes : goal.returns-clause-notes
 returns-clause-notes c =
-    none_left c.args.decls.now c.args.clauses.now c.loop-clause.clause-index c.loop-clause.notes
+    none_left c.args.decls.now c.args.clauses.now c.loop-clause.clause-index
+    (full_notes c.args.decls.now c.loop-clause.notes)
     (omega (arith, c.loop-clause-test.false)) c.loop-clause.invariant.fault c.loop-clause.invariant.notes
 
 pub returns-clause-countable : goal.returns-clause-countable
@@ -58,3 +62,10 @@ returns-clause-countable c =
     subst (All HasCountable)
     (take_all c.loop-clause.clause-index c.args.clauses.now (omega (arith, c.loop-clause-test.false)))
     c.loop-clause.invariant.countable
+
+pub add_clause-requires-clause-count : goal.add_clause-requires-clause-count
+add_clause-requires-clause-count c =
+    let decls = c.args.decls.now in
+    sym (length-full_notes decls c.loop-clause.notes)
+    ∙ ap length c.loop-clause.invariant.notes
+    ∙ length-map decls (note_of (take c.loop-clause.clause-index c.args.clauses.now))
