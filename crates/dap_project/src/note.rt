@@ -138,8 +138,8 @@ fn choice_on(decl: &Decl, path: &[Bytes], known: bool, choice: Choice) -> Choice
     picked_by(decl, path)
 }
 
-// Notes what a clause asks of each declaration. It may pick something of those at these indices alone. On one of them it
-// was checked: what it picks of that is known, and no part of that has other slabs.
+// Notes what a clause asks of each declaration. It may pick something of those at these indices alone. On one of them
+// it was checked: what it picks of that is known, and no part of that has other slabs.
 pub(crate) fn note_clause(
     alloc: Global,
     decls: &[Decl],

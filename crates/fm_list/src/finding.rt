@@ -107,8 +107,8 @@ fn index_among(file: &Placed, near: usize, rise: bool, valid: i64) -> Option<u32
     }
 }
 
-// The first index of a valid time in a file. Where the times lie evenly apart no look at them is needed. Else one begins
-// at the index `near`.
+// The first index of a valid time in a file. Where the times lie evenly apart no look at them is needed. Else one
+// begins at the index `near`.
 fn time_in(file: &Placed, valid: i64, near: usize) -> Option<u32>
     requires { HasSoundTimes file.now }
     ensures { result ≡ position (λ time. int_eq time valid) file.now.times }

@@ -217,8 +217,8 @@ fn all_keep(best: &RowPages, least: Option<i64>) -> bool
     true
 }
 
-// The rows of all pages, also with a least offset. Where it is seen at once that all kept rows keep it, they are shared,
-// and no run is listed.
+// The rows of all pages, also with a least offset. Where it is seen at once that all kept rows keep it, they are
+// shared, and no run is listed.
 pub(crate) fn best_rows(
     alloc: Global,
     by_run: &Pages,
