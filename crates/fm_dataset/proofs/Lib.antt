@@ -23,3 +23,4 @@ pub mod SmallLemmas
 pub mod TableLemmas
 pub mod TextLemmas
 pub mod WidthLemmas
+pub mod ZeroLemmas

@@ -16,6 +16,7 @@ mod shown;
 mod table;
 mod time;
 mod value;
+mod zeros;
 
 pub use build::dataset;
 pub use column::Column;

@@ -7,6 +7,7 @@ ghost use Rattle.fm_dataset.specs.Values as spec;
 
 use crate::block::{block_of, pieces_of};
 use crate::index::{count_in, length_at, rank, row_dims, row_index};
+use crate::zeros::without_eights;
 use fm_file::trimmed;
 use fm_model::{Proto, ProtoVar};
 use fm_rows::Rows;
@@ -97,5 +98,5 @@ pub(crate) fn text_of<'a>(
     requires { HasCharacters proto.now rows.now var.now number index.now }
     ensures { result.now ≡ spec.var_text proto.now rows.now var.now index.now }
 {
-    trimmed(characters(proto, rows, var, number, index))
+    trimmed(without_eights(characters(proto, rows, var, number, index)))
 }
