@@ -34,7 +34,7 @@ pub(crate) fn push_keeping(
     let mut at = 0;
     while at < times.len() {
         if lies_after(&times[at], least) {
-            at += 1;
+            at = kept.end_of(at);
         } else {
             push_between(rows, kept, from, at)?;
             at += 1;
