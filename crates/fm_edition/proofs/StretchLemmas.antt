@@ -13,6 +13,7 @@ use Rattle.fm_edition.specs.Least.{keeps_least, lies_after, row_time}
 use Rattle.fm_edition.specs.Stretches.{lag, IsEnd, Rise}
 use Rattle.fm_edition.proofs.EarlyLemmas.{no_time}
 use Rattle.fm_edition.proofs.KeepLemmas.{passed_more}
+use Rattle.fm_edition.proofs.LeastSteps.{through}
 
 -- a valid time that lies further after its run keeps each offset that one does that lies nearer
 further : (least : Option ℤ) (near far : Oldest) → lag near ≤ℤ lag far → lies_after least near ≡ true
@@ -28,14 +29,20 @@ pub stretch_keeps : (least : Option ℤ) (times : List Oldest) (from to : ℕ) (
 stretch_keeps least times from to z end keeps k order lt =
     further least (get_or times from z) (get_or times k z) (end.rise from k z (omega arith) order lt) keeps
 
+-- so do the rows of a stretch, where its valid times are theirs
+pub rows_keep : (least : Option ℤ) (rows : List Row) (times : List Oldest) (from to : ℕ) (row : Row)
+    → times ≡ map row_time rows → IsEnd times from to → lies_after least (get_or times from no_time) ≡ true
+    → (k : ℕ) → from ≤ k → k < to → keeps_least least (get_or rows k row) ≡ true
+rows_keep least rows times from to row are end keeps k first lt =
+    let within : k < length rows = omega (arith, lt, end.within, ap length are, length-map rows row_time) in
+    ap (lies_after least) (sym (ap (λ l. get_or l k no_time) are ∙ get_or-map row_time rows k row no_time within))
+    ∙ stretch_keeps least times from to no_time end keeps k first lt
+
 -- one valid time alone
 pub rise_one : (times : List Oldest) (from to : ℕ) → to ≡ from + 1 → Rise times from to
 rise_one times from to one = λ i k z first order lt.
     let same : i ≡ k = omega (arith, first, order, lt, one) in
     subst (λ n. lag (get_or times i z) ≤ℤ lag (get_or times n z)) same (omega (arith, ints))
-
-through : (a b c : ℤ) → a ≤ℤ b → b ≤ℤ c → a ≤ℤ c
-through a b c ab bc = omega (arith, ints)
 
 -- one valid time more that lies at least as far after its run as the last
 pub rise_more : (times : List Oldest) (from to : ℕ) (z : Oldest) → from < to → to < length times → Rise times from to
@@ -103,15 +110,6 @@ passed_all f made first list from at to z begun order within pass so =
         (λ k first lt. pass k first (omega (arith, lt, one))) in
         rw one (passed_more f made first list from last item lt (get_or_default list last z item lt)
         (omega (arith, begun)) (pass last (omega arith) (omega (arith, one))) before)
-
--- so do the rows of a stretch, where its valid times are theirs
-pub rows_keep : (least : Option ℤ) (rows : List Row) (times : List Oldest) (from to : ℕ) (row : Row)
-    → times ≡ map row_time rows → IsEnd times from to → lies_after least (get_or times from no_time) ≡ true
-    → (k : ℕ) → from ≤ k → k < to → keeps_least least (get_or rows k row) ≡ true
-rows_keep least rows times from to row are end keeps k first lt =
-    let within : k < length rows = omega (arith, lt, end.within, ap length are, length-map rows row_time) in
-    ap (lies_after least) (sym (ap (λ l. get_or l k no_time) are ∙ get_or-map row_time rows k row no_time within))
-    ∙ stretch_keeps least times from to no_time end keeps k first lt
 
 -- one end more
 pub ends_more : (times : List Oldest) (ends : List ℕ) (at end : ℕ) → length ends ≡ at → IsEnd times at end

@@ -43,8 +43,8 @@ pub(crate) fn lies_after(time: &Oldest, least: Option<i64>) -> bool
     keeps_least_offset(least, time.run, time.valid)
 }
 
-// How many valid times of a page have a row with a least offset. No file is looked at, and of a stretch none behind the
-// first that keeps it.
+// How many valid times of a page have a row with a least offset. No file is looked at, and of a stretch no valid time
+// behind the first that keeps it.
 pub(crate) fn count_early(kept: &PageRows, least: Option<i64>) -> usize
     ensures { result ≡ length (filter (lies_after least) kept.now.oldest) }
 {

@@ -20,7 +20,7 @@ fn push_between(rows: &mut Rows, kept: &PageRows, from: usize, to: usize) -> Res
 }
 
 // Adds the rows of a page that keep a least offset. Those that stand one after the other are shared. No row is looked
-// at, since its run is the least one of its valid time.
+// at, since its run is the least one of its valid time, and of a stretch no valid time behind the first that keeps it.
 pub(crate) fn push_keeping(
     rows: &mut Rows,
     kept: &PageRows,

@@ -15,9 +15,9 @@ pub(crate) struct Oldest {
     pub run: i64,
 }
 
-/// The rows of a page, the least number of seconds that the valid time of one lies after its run, each valid time of
-/// the page beside the least run of its files, the end of the stretch of each, and whether each is that of one file. A
-/// clause sees neither the least number nor the ends.
+/// The rows of a page, and each valid time of the page beside the least run of its files. Beside these stand how many
+/// seconds the valid time of a row lies after its run at least, the end of the stretch of each valid time, and whether
+/// each is that of one file. A clause sees neither the seconds nor the ends.
 #[derive(Drop)]
 pub(crate) struct PageRows {
     rows: Arc<List<Row>>,

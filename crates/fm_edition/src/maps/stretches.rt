@@ -28,7 +28,7 @@ fn end_from(times: &[Oldest], from: usize) -> usize
     end
 }
 
-// Of each valid time the end of its stretch.
+// The end of the stretch of each valid time.
 pub(crate) fn ends_of(alloc: Global, times: &[Oldest]) -> Result<List<usize>, NoMemory>
     ensures { IfOk result (λ ends. AreEnds times.now ends) }
 {
