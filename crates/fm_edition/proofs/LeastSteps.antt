@@ -7,7 +7,8 @@ use Rattle.fm_model.specs.declared.row.Row.{Row}
 use Rattle.fm_model.proofs.BestLemmas.{offset_test}
 use Rattle.fm_edition.specs.Least.{KeepLeast, LieAfter}
 
-through : (a b c : ℤ) → a ≤ℤ b → b ≤ℤ c → a ≤ℤ c
+-- what is at most one number is at most each larger one
+pub through : (a b c : ℤ) → a ≤ℤ b → b ≤ℤ c → a ≤ℤ c
 through a b c ab bc = omega (arith, ints)
 
 pub least_more : (rows : List Row) (i : ℕ) (row : Row) (least next : ℤ) → i < length rows → row ≡ get_or rows i row

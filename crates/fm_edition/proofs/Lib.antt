@@ -23,6 +23,7 @@ pub mod RunLemmas
 pub mod SetLemmas
 pub mod ShownLemmas
 pub mod StepLemmas
+pub mod StretchLemmas
 pub mod TallyLemmas
 pub mod TurnedLemmas
 pub mod TurningLemmas

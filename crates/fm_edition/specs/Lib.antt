@@ -10,6 +10,7 @@ pub mod Log
 pub mod Page
 pub mod Pieces
 pub mod Steps
+pub mod Stretches
 pub mod Turning
 pub use Rattle.fm_model.specs.Collection
 pub use Rattle.fm_model.specs.Cell

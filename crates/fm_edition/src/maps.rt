@@ -25,6 +25,7 @@ mod page_rows;
 mod pages;
 mod roll;
 mod shared;
+mod stretches;
 mod walk;
 mod wanted;
 

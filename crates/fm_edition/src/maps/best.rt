@@ -140,7 +140,7 @@ fn count_from(kept: &PageRows, least: Option<i64>) -> usize
     if kept.keeps(least) {
         return kept.len();
     }
-    count_early(kept.oldest(), least)
+    count_early(kept, least)
 }
 
 // The rows of all pages, also with a least offset, on a walk from a run. Of a page whose rows keep it none is made or

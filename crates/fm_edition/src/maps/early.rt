@@ -1,5 +1,5 @@
 //! The rows of a page of valid times. The least run of a valid time's files tells whether one keeps a least offset.
-ghost use Rattle.std.specs.Prelude.{◌≡◌, ◌≤◌, [], ◌∷◌, ◌++◌, All, OnOk, filter, if◌then◌else◌, length};
+ghost use Rattle.std.specs.Prelude.{◌≡◌, [], ◌∷◌, ◌++◌, All, OnOk, filter, length};
 ghost use Rattle.std.specs.BTreeMap as tree;
 ghost use Rattle.std.specs.List.{filter_map};
 ghost use Rattle.std.specs.Option.{option_to_list};
@@ -12,7 +12,7 @@ ghost use Rattle.fm_edition.specs.Least.{lies_after};
 use crate::maps::entry::push_best;
 use crate::maps::latest::Latest;
 use crate::maps::page::Page;
-use crate::maps::page_rows::Oldest;
+use crate::maps::page_rows::{Oldest, PageRows};
 use fm_base::{List, NoMemory};
 use fm_list::keeps_least_offset;
 use fm_model::Row;
@@ -43,21 +43,22 @@ pub(crate) fn lies_after(time: &Oldest, least: Option<i64>) -> bool
     keeps_least_offset(least, time.run, time.valid)
 }
 
-// 1 where it does, else 0.
-fn once(time: &Oldest, least: Option<i64>) -> usize
-    ensures value { result ≡ if lies_after least time.now then 1 else 0 }
-    ensures few { result ≤ 1 }
+// How many valid times of a page have a row with a least offset. No file is looked at, and of a stretch no valid time
+// behind the first that keeps it.
+pub(crate) fn count_early(kept: &PageRows, least: Option<i64>) -> usize
+    ensures { result ≡ length (filter (lies_after least) kept.now.oldest) }
 {
-    if lies_after(time, least) { 1 } else { 0 }
-}
-
-// How many valid times have a row with a least offset. No file is looked at.
-pub(crate) fn count_early(oldest: &[Oldest], least: Option<i64>) -> usize
-    ensures { result ≡ length (filter (lies_after least) oldest.now) }
-{
+    let times = kept.oldest();
     let mut count = 0;
-    for time in oldest {
-        count += once(time, least);
+    let mut at = 0;
+    while at < times.len() {
+        if lies_after(&times[at], least) {
+            let end = kept.end_of(at);
+            count += end - at;
+            at = end;
+        } else {
+            at += 1;
+        }
     }
     count
 }

@@ -20,7 +20,7 @@ fn push_between(rows: &mut Rows, kept: &PageRows, from: usize, to: usize) -> Res
 }
 
 // Adds the rows of a page that keep a least offset. Those that stand one after the other are shared. No row is looked
-// at, since its run is the least one of its valid time.
+// at, since its run is the least one of its valid time, and of a stretch no valid time behind the first that keeps it.
 pub(crate) fn push_keeping(
     rows: &mut Rows,
     kept: &PageRows,
@@ -34,7 +34,7 @@ pub(crate) fn push_keeping(
     let mut at = 0;
     while at < times.len() {
         if lies_after(&times[at], least) {
-            at += 1;
+            at = kept.end_of(at);
         } else {
             push_between(rows, kept, from, at)?;
             at += 1;

@@ -2,6 +2,7 @@
 ghost use Rattle.std.specs.Prelude.{◌≤ℤ◌};
 ghost use Rattle.fm_edition.specs.Least.{LieAfter};
 
+use crate::maps::stretches::ends_of;
 use fm_base::{Arc, List, NoMemory};
 use fm_model::Row;
 use std::alloc::Global;
@@ -14,13 +15,15 @@ pub(crate) struct Oldest {
     pub run: i64,
 }
 
-/// The rows of a page, the least number of seconds that the valid time of one lies after its run, each valid time of
-/// the page beside the least run of its files, and whether each is that of one file. A clause sees all but the second.
+/// The rows of a page, and each valid time of the page beside the least run of its files. Beside these stand how many
+/// seconds the valid time of a row lies after its run at least, the end of the stretch of each valid time, and whether
+/// each is that of one file. A clause sees neither the seconds nor the ends.
 #[derive(Drop)]
 pub(crate) struct PageRows {
     rows: Arc<List<Row>>,
     least: i128,
     oldest: List<Oldest>,
+    ends: List<usize>,
     alone: bool,
 }
 
@@ -45,17 +48,19 @@ fn least_of(rows: &[Row]) -> i128
 impl Model for PageRows {
     ghost use Rattle.fm_edition.specs.Kept.{KeptRows};
     ghost use Rattle.fm_edition.specs.Least.{LieAfter};
+    ghost use Rattle.fm_edition.specs.Stretches.{AreEnds};
 
     ghost Value = { KeptRows };
 
     ghost view = { λ page. record { rows = page.rows; oldest = page.oldest; alone = page.alone } };
 
-    ghost invariant = { λ page. LieAfter page.least page.rows };
+    ghost invariant = { λ page. (LieAfter page.least page.rows) × (AreEnds page.oldest page.ends) };
 }
 
 impl PageRows {
-    ghost use Rattle.std.specs.Prelude.{◌≡◌, IfOk, IsTrue, length};
+    ghost use Rattle.std.specs.Prelude.{◌≡◌, ◌<◌, IfOk, IsTrue, length};
     ghost use Rattle.fm_edition.specs.Least.{KeepLeast};
+    ghost use Rattle.fm_edition.specs.Stretches.{IsEnd};
 
     pub(crate) fn new(
         alloc: Global,
@@ -66,10 +71,12 @@ impl PageRows {
         ensures { IfOk result (λ page. page ≡ record { rows = rows; oldest = oldest; alone = alone }) }
     {
         let least = least_of(rows.as_slice());
+        let ends = ends_of(alloc, oldest.as_slice())?;
         Ok(PageRows {
             rows: Arc::new(alloc, rows)?,
             least,
             oldest,
+            ends,
             alone,
         })
     }
@@ -92,6 +99,14 @@ impl PageRows {
         ensures { result.now ≡ self.now.oldest }
     {
         self.oldest.as_slice()
+    }
+
+    // The end of the stretch of a valid time.
+    pub(crate) fn end_of(&self, at: usize) -> usize
+        requires { at < length self.now.oldest }
+        ensures { IsEnd self.now.oldest at result }
+    {
+        self.ends.as_slice()[at]
     }
 
     // One more owner of the rows.

@@ -18,6 +18,5 @@ returns-then-keeps c = λ page is timed.
 pub returns : goal.returns
 returns c = λ page is timed.
     c.count_early.ensures
-    ∙ ap (λ l. length (filter (lies_after c.args.least) l)) (c.oldest.ensures
-    ∙ ap (λ (kept : KeptRows). kept.oldest) is)
+    ∙ ap (λ (kept : KeptRows). length (filter (lies_after c.args.least) kept.oldest)) is
     ∙ count-early c.args.least page.entries timed

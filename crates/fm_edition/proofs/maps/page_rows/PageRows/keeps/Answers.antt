@@ -12,7 +12,7 @@ returns-in-Some c =
     rw c.in-Some.is (λ holds.
     let below : c.in-Some.seconds ≤ℤ c.self.inside.least = grind (arith, ints, holds, to_z-of_z) in
     subst (λ (kept : KeptRows). KeepLeast (Some c.in-Some.seconds) kept.rows) c.self.view_is
-    (keep_from c.self.inside.rows c.in-Some.seconds c.self.inside.least below c.self.invariant))
+    (keep_from c.self.inside.rows c.in-Some.seconds c.self.inside.least below c.self.invariant.0))
 
 pub returns-in-None : goal.returns-in-None
 returns-in-None c =
