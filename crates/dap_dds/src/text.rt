@@ -1,5 +1,5 @@
 //! The structure text.
-ghost use Rattle.std.specs.Prelude.{◌≡◌, ◌<◌, ◌++◌, OnOk, OnErr};
+ghost use Rattle.std.specs.Prelude.{◌≡◌, ◌<◌, ◌++◌, IfOk, OnOk, OnErr};
 ghost use Rattle.std.specs.Fmt.{decimal};
 ghost use Rattle.dap_model.specs.StructureText as text;
 
@@ -159,9 +159,24 @@ fn put_decls(decls: &[Decl], depth: u32, out: &mut Bytes) -> Result<(), NoMemory
     Ok(())
 }
 
-/// Writes the structure text (ESE-RFC-004, DDS) of a dataset with this label at the end of `out`: `Dataset {`, each
-/// declaration indented by four spaces, and `} LABEL;`, with LF after each line. An `Err` changes nothing.
+// With how many bytes a text begins, so that a common one doesn't grow.
+const ROOM: usize = 1_024;
+
+/// The structure text (ESE-RFC-004, DDS) of a dataset with this label: `Dataset {`, each declaration indented by four
+/// spaces, and `} LABEL;`, with LF after each line.
 #[tactic(auto, unfolding(dap_model::specs::StructureText::dds_of))]
+pub fn dds_of(alloc: Global, label: &[u8], decls: &List<Decl>) -> Result<Bytes, NoMemory>
+    ensures { IfOk result (λ made. made ≡ text.dds_of label.now decls.now) }
+{
+    let items = Vec::with_capacity(alloc, ROOM)?;
+    let mut whole = Bytes { items };
+    put_line(0, b"Dataset {", &mut whole)?;
+    put_decls(decls.as_slice(), 1, &mut whole)?;
+    put_close(0, label, &mut whole)?;
+    Ok(whole)
+}
+
+/// Writes the structure text of a dataset with this label at the end of `out`. An `Err` changes nothing.
 pub fn dds_text(
     alloc: Global,
     label: &[u8],
@@ -171,9 +186,6 @@ pub fn dds_text(
     ensures ok { OnOk result (out.new ≡ out.old ++ text.dds_of label.now decls.now) }
     ensures err { OnErr result (out.new ≡ out.old) }
 {
-    let mut whole = Bytes::new(alloc);
-    put_line(0, b"Dataset {", &mut whole)?;
-    put_decls(decls.as_slice(), 1, &mut whole)?;
-    put_close(0, label, &mut whole)?;
+    let whole = dds_of(alloc, label, decls)?;
     out.append(whole.as_slice())
 }

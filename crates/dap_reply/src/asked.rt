@@ -2,7 +2,7 @@
 ghost use Rattle.std.specs.Prelude.{◌≡◌, ◌<◌, ◌^◌, ◌++◌, [], All, IfOk, Ok, codes, length};
 ghost use Rattle.fm_base.specs.Answer.{Answers, AnswersAs};
 ghost use Rattle.fm_model.specs.Rows as views;
-ghost use Rattle.dap_model.specs.StructureText.{dds_of};
+ghost use Rattle.dap_model.specs.StructureText as texts;
 ghost use Rattle.fm_dataset.specs.Declarations.{decls_of};
 ghost use Rattle.dap_reply.specs.declared.body.BodyKind.{BodyKind as Kind};
 ghost use Rattle.dap_reply.specs.Body.{attributes_asked, body_of, data_asked, data_behind_text, dataset_sent};
@@ -15,7 +15,7 @@ use crate::body::{Body, BodyKind};
 use crate::fault::DapFault;
 use dap_ce::read_constraint;
 use dap_das::das_text_of;
-use dap_dds::dds_text;
+use dap_dds::dds_of;
 use dap_model::{Decl, Projected, Sent};
 use dap_plan::{Laid, Plan, lay_out};
 use dap_project::{project, whole_parts};
@@ -31,7 +31,7 @@ use web_path::{Service, Target};
 pub const MAX_BODY: u64 = 536_870_912;
 
 // Room behind a structure text for the line that follows it, and for the head of a reply.
-const ROOM_BEHIND: usize = 1_024;
+const ROOM_BEHIND: usize = 512;
 
 // How many rows a view has, of which there is one.
 #[tactic(auto, unfolding(crate::specs::Body::some_rows))]
@@ -92,24 +92,15 @@ fn text_body(alloc: Global, kind: BodyKind, text: Bytes) -> Result<Body, Fail<Da
     })
 }
 
-// The structure text of declarations, under the label of a target.
-fn dds_of(alloc: Global, target: &Target, decls: &List<Decl>) -> Result<Bytes, NoMemory>
-    ensures { IfOk result (λ text. text ≡ dds_of target.now.label decls.now) }
-{
-    let mut text = Bytes::new(alloc);
-    dds_text(alloc, target.label.as_slice(), decls, &mut text)?;
-    Ok(text)
-}
-
 // The body that is this text.
 fn structure_body(
     alloc: Global,
     target: &Target,
     decls: &List<Decl>,
 ) -> Result<Body, Fail<DapFault>>
-    ensures { Answers (within_limit (text_body Kind.Structure (dds_of target.now.label decls.now))) result }
+    ensures { Answers (within_limit (text_body Kind.Structure (texts.dds_of target.now.label decls.now))) result }
 {
-    let text = dds_of(alloc, target, decls)?;
+    let text = dds_of(alloc, target.label.as_slice(), decls)?;
     text_body(alloc, BodyKind::Structure, text)
 }
 
@@ -208,9 +199,9 @@ fn data_body(
 
 // The text before the data that a target asks for of declarations.
 fn front_of(alloc: Global, target: &Target, decls: &List<Decl>) -> Result<Bytes, NoMemory>
-    ensures { IfOk result (λ text. text ≡ dds_of target.now.label decls.now ++ codes "Data:\n") }
+    ensures { IfOk result (λ text. text ≡ texts.dds_of target.now.label decls.now ++ codes "Data:\n") }
 {
-    let mut text = dds_of(alloc, target, decls)?;
+    let mut text = dds_of(alloc, target.label.as_slice(), decls)?;
     text.items.reserve_exact(ROOM_BEHIND)?;
     text.append(b"Data:\n")?;
     Ok(text)

@@ -6,8 +6,8 @@ ghost use Rattle.dap_reply.specs.Head.{allow_line, connection_word, count_lines,
 
 use crate::body::BodyKind;
 use crate::status::Status;
-use fm_base::{Bytes, NoMemory, put_decimal};
-use std::alloc::Global;
+use fm_base::{Bytes, NoMemory};
+use itoa::Buffer;
 
 /// What a head says: the status, what the body is, how many bytes it has, how many operations left the collection, and
 /// whether the connection ends.
@@ -33,12 +33,13 @@ fn put_line(name: &[u8], value: &[u8], out: &mut Bytes) -> Result<(), NoMemory>
 
 // Writes a line with a number.
 #[tactic(auto, unfolding(crate::specs::Head::head_line))]
-fn put_number(alloc: Global, name: &[u8], number: u64, out: &mut Bytes) -> Result<(), NoMemory>
+fn put_number(name: &[u8], number: u64, out: &mut Bytes) -> Result<(), NoMemory>
     ensures { OnOk result (out.new ≡ out.old ++ head_line name.now (decimal number)) }
 {
     out.append(name)?;
     out.append(b": ")?;
-    put_decimal(alloc, i128::from(number), out)?;
+    let mut buffer = Buffer::new();
+    out.append(buffer.format(number).as_bytes())?;
     out.append(b"\r\n")
 }
 
@@ -86,11 +87,11 @@ fn put_kind(kind: BodyKind, out: &mut Bytes) -> Result<(), NoMemory>
 
 // Writes how many operations left the collection, and how many bytes the body has.
 #[tactic(auto, unfolding(crate::specs::Head::count_lines))]
-fn put_counts(alloc: Global, revision: u64, len: u64, out: &mut Bytes) -> Result<(), NoMemory>
+fn put_counts(revision: u64, len: u64, out: &mut Bytes) -> Result<(), NoMemory>
     ensures { OnOk result (out.new ≡ out.old ++ count_lines revision len) }
 {
-    put_number(alloc, b"X-Collection-Revision", revision, out)?;
-    put_number(alloc, b"Content-Length", len, out)
+    put_number(b"X-Collection-Revision", revision, out)?;
+    put_number(b"Content-Length", len, out)
 }
 
 // Writes whether the connection stays, and the end of the head.
@@ -105,12 +106,12 @@ fn put_last(status: Status, last: bool, out: &mut Bytes) -> Result<(), NoMemory>
 
 // Writes a head.
 #[tactic(auto, unfolding(crate::specs::Head::head_text))]
-pub(crate) fn put_head(alloc: Global, head: &Head, out: &mut Bytes) -> Result<(), NoMemory>
+pub(crate) fn put_head(head: &Head, out: &mut Bytes) -> Result<(), NoMemory>
     ensures { OnOk result (out.new ≡ out.old ++ head_text head.now) }
 {
     put_status(head.status, out)?;
     put_line(b"XDODS-Server", b"dods/3.2", out)?;
     put_kind(head.kind, out)?;
-    put_counts(alloc, head.revision, head.len, out)?;
+    put_counts(head.revision, head.len, out)?;
     put_last(head.status, head.last, out)
 }

@@ -70,7 +70,7 @@ fn answer_head(alloc: Global, answer: &Answer, revision: u64, last: bool) -> Res
         revision,
         last,
     };
-    put_head(alloc, &head, &mut text)?;
+    put_head(&head, &mut text)?;
     Ok(text)
 }
 

@@ -15,11 +15,11 @@ use fm_model::Site;
 use percent_encoding::percent_decode;
 use std::alloc::Global;
 
-// The bytes with each escape decoded.
+// The bytes with each escape decoded. These are no more than there were.
 fn decoded(alloc: Global, bytes: &[u8]) -> Result<Bytes, NoMemory>
     ensures { IfOk result (λ list. list ≡ escapes.percent_decode bytes.now) }
 {
-    let mut items = Vec::new(alloc);
+    let mut items = Vec::with_capacity(alloc, bytes.len())?;
     percent_decode(bytes).append_to(&mut items)?;
     Ok(Bytes { items })
 }

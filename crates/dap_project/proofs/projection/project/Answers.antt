@@ -1,5 +1,5 @@
 -- What is sent for the notes is the projection.
-use Rattle.std.proofs.Common.{◌≡◌, ◌×◌, All, Err, List, Ok, [], ap, length, map, subst, sym, ◌∙◌}
+use Rattle.std.proofs.Common.{◌≡◌, All, Err, List, Ok, [], ap, length, map, subst, sym, ◌∙◌}
 use Rattle.std.proofs.lemmas.List.{length-map}
 use Rattle.std.proofs.lemmas.Result.{err_from_is_err_and}
 use Rattle.fm_base.specs.Answer.{AnswersAs}
