@@ -15,12 +15,12 @@ use std::alloc::Global;
 /// that fits the prototype, of at most 3,221,225,472 bytes, with that file's run, an index among its times, and the
 /// time at that index as valid time.
 ///
-/// The rows are moved, in pages that others may share, and the prototype is shared; it takes memory and time for the
+/// The rows, which others may share, are moved, and the prototype is shared; it takes memory and time for the
 /// declarations alone.
 pub fn dataset(
     alloc: Global,
     proto: &Arc<Proto>,
-    rows: Rows,
+    rows: Arc<Rows>,
     view: ViewName,
     label: &[u8],
 ) -> Result<Dataset, NoMemory>
@@ -34,7 +34,7 @@ pub fn dataset(
         proto: proto.get(),
         coordinates: coordinates.as_slice(),
     };
-    let decls = decls_in(alloc, &of, rows.len() as u64)?;
+    let decls = decls_in(alloc, &of, rows.get().len() as u64)?;
     let slots = slot_numbers(alloc, proto.get())?;
     let proto = proto.share()?;
     Ok(Dataset {

@@ -10,12 +10,12 @@ use fm_model::{Proto, ViewName};
 use fm_rows::Rows;
 use std::marker::Model;
 
-/// The dataset of a view: its rows over a prototype, under a label. A clause sees these four. It holds the rows in
-/// pages that others may share, and each row's file by its owner, and copies nothing of a page or a file.
+/// The dataset of a view: its rows over a prototype, under a label. A clause sees these four. It holds rows
+/// that others may share, and each row's file by its owner, and copies nothing of a row or a file.
 #[derive(Drop)]
 pub struct Dataset {
     pub(crate) proto: Arc<Proto>,
-    pub(crate) rows: Rows,
+    pub(crate) rows: Arc<Rows>,
     pub(crate) view: ViewName,
     pub(crate) label: Bytes,
     pub(crate) decls: List<Decl>,
@@ -48,7 +48,7 @@ impl Dataset {
     pub(crate) fn rows(&self) -> &Rows
         ensures { result.now ≡ self.now.rows }
     {
-        &self.rows
+        self.rows.get()
     }
 
     /// The view.

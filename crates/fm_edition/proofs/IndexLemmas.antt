@@ -17,7 +17,7 @@ use Rattle.fm_list.specs.Change.{changed, gone, keeps, HasGone}
 use Rattle.fm_edition.specs.declared.maps.index.Index.{Index}
 use Rattle.fm_edition.specs.Held.{Held, held_after, IsEdition}
 use Rattle.fm_list.specs.Selected.{part, selects}
-use Rattle.fm_edition.specs.Indexes.{entries_of, in_page, instants, or_none, page_of, page_set, rows_at, shown_in, some_of, AreBest, AreMaps, AreOrdered, AreParts, IsIndexed, IsTimed, Pages}
+use Rattle.fm_edition.specs.Indexes.{entries_of, in_page, instants, kept_rows, or_none, page_of, page_set, rows_at, shown_in, some_of, AreMaps, AreOrdered, AreParts, IsBest, IsIndexed, IsTimed, Pages}
 use Rattle.fm_edition.specs.Log.{CanFollow}
 use Rattle.fm_edition.specs.Steps.{HaveGone}
 use Rattle.fm_edition.proofs.EditionLemmas.{times_are_sound, IsEdition-after, IsEdition-none}
@@ -44,13 +44,17 @@ AreParts-none by pages none ordered = record {
 pub AreMaps-none : (index : Index) → index.by_run.entries ≡ [] → IsOrdered int_cmp index.by_run
     → index.by_time.entries ≡ [] → IsOrdered int_cmp index.by_time
     → index.by_name.entries ≡ [] → IsOrdered int_cmp index.by_name
-    → index.best.entries ≡ [] → IsOrdered int_cmp index.best → AreMaps [] index
+    → index.best.pages.entries ≡ [] → IsOrdered int_cmp index.best.pages
+    → index.best.rows ≡ kept_rows index.best.pages.entries → AreMaps [] index
 unfolding rows_at
-AreMaps-none index no_run run_order no_time time_order no_name name_order no_rows row_order = record {
+AreMaps-none index no_run run_order no_time time_order no_name name_order no_rows row_order whole = record {
   of_runs = AreParts-none Run index.by_run no_run run_order;
   of_times = AreParts-none Time index.by_time no_time time_order;
   of_names = AreParts-none Name index.by_name no_name name_order;
-  of_best = record { ordered = row_order; shown = λ number. rw (no_rows, no_time) refl };
+  of_best = record {
+    paged = record { ordered = row_order; shown = λ number. rw (no_rows, no_time) refl };
+    whole = whole;
+  };
 }
 
 -- what an edition without files keeps
@@ -98,7 +102,7 @@ entries_timed-after held op by_time next sound can are done = entries_timed (aft
 -- the maps after an operation
 pub AreMaps-after : (files : List Loaded) (op : Op) (index next : Index) → AreMaps files index
     → IsDone Run files op index.by_run next.by_run → IsDone Time files op index.by_time next.by_time
-    → IsDone Name files op index.by_name next.by_name → AreBest next.by_time next.best
+    → IsDone Name files op index.by_name next.by_name → IsBest next.by_time next.best
     → AreMaps (after_op files op) next
 AreMaps-after files op index next maps runs times names best = record {
   of_runs = AreParts-after Run files op index.by_run next.by_run maps.of_runs runs.ordered runs.set;

@@ -18,6 +18,7 @@ use Rattle.fm_list.specs.declared.by.By.TheVariants.{Run, Time, Name}
 use Rattle.fm_list.specs.Code.{code_of}
 use Rattle.fm_list.specs.Found.{oldest_behind}
 use Rattle.fm_list.specs.Selected.{part, part_after, AreSound, HaveTime}
+use Rattle.fm_edition.specs.declared.maps.best.Best.{Best}
 use Rattle.fm_edition.specs.declared.maps.index.Index.{Index}
 use Rattle.fm_edition.specs.declared.maps.page_rows.Oldest.{Oldest}
 use Rattle.fm_edition.specs.declared.maps.wanted.Wanted.{Wanted}
@@ -139,6 +140,11 @@ pub record AreBest (pages : Pages) (best : RowPages) : Type 0 where
   pub ordered : IsOrdered int_cmp best
   pub shown : (number : ℤ) → get int_cmp best number ≡ rows_at pages number
 
+-- the rows of each page of valid times, and those of all pages
+pub record IsBest (pages : Pages) (best : Best) : Type 0 where
+  pub paged : AreBest pages best.pages
+  pub whole : best.rows ≡ kept_rows best.pages.entries
+
 -- there are files by a valid time, and they have it, and sound times
 pub record IsTimed (entry : ℤ × List Loaded) : Type 0 where
   pub some : 0 < length entry.1
@@ -154,7 +160,7 @@ pub record AreMaps (files : List Loaded) (index : Index) : Type 0 where
   pub of_runs : AreParts Run files index.by_run
   pub of_times : AreParts Time files index.by_time
   pub of_names : AreParts Name files index.by_name
-  pub of_best : AreBest index.by_time index.best
+  pub of_best : IsBest index.by_time index.best
 
 -- what every edition keeps, also of its tally and its maps
 pub record IsIndexed (held : Held) (count : Tally) (index : Index) : Type 0 where

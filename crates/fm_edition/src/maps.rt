@@ -68,11 +68,12 @@ impl Edition {
         requires { IsPrototype proto }
         ensures { IfOk result (λ edition. edition ≡ record { proto = proto; files = [] }) }
     {
+        let index = no_maps(alloc)?;
         Ok(Edition {
             proto,
             files: Roll::new(alloc),
             tally: counting::nothing(),
-            index: no_maps(alloc),
+            index,
         })
     }
 
@@ -176,9 +177,9 @@ impl Edition {
         pages::files_at(&self.index.by_time, valid).best(valid, least)
     }
 
-    /// One row for each valid time that has a best run, from that run.
-    /// Of a page of valid times whose rows keep the least offset none is made: they are those that the edition keeps.
-    pub fn best_rows(&self, alloc: Global, least: Option<i64>) -> Result<Rows, NoMemory>
+    /// One row for each valid time that has a best run, from that run. Where all rows that the edition keeps keep the
+    /// least offset, they are shared as they are. Else none is made of a page of valid times whose rows keep it.
+    pub fn best_rows(&self, alloc: Global, least: Option<i64>) -> Result<Arc<Rows>, NoMemory>
         ensures { IfOk result (λ rows.
             rows ≡ filter_map (best_row self.now.files least) (times_of self.now.files)) }
     {
@@ -195,7 +196,7 @@ impl Edition {
     pub fn best_count(&self, least: Option<i64>) -> usize
         ensures { result ≡ length (filter_map (best_row self.now.files least) (times_of self.now.files)) }
     {
-        best::best_count(&self.index.by_time, &self.index.best, least)
+        best::best_count(&self.index.by_time, &self.index.best.pages, least)
     }
 
     /// The prototype, and what every edition keeps.

@@ -13,7 +13,7 @@ use crate::grid::Grid;
 use crate::offsets::offsets_of;
 use dap_model::Decl;
 use dap_reply::DapFault;
-use fm_base::{Fail, List, NoMemory};
+use fm_base::{Arc, Fail, List, NoMemory};
 use fm_dataset::{Dataset, dataset};
 use fm_edition::Edition;
 use fm_model::ViewName;
@@ -27,6 +27,7 @@ fn set_of(alloc: Global, edition: &Edition, rows: Rows) -> Result<Dataset, NoMem
     requires some { rows ≢ [] }
     ensures { IfOk result (λ set. set ≡ (laid_of edition.now.proto edition.now.files).cells) }
 {
+    let rows = Arc::new(alloc, rows)?;
     let set = dataset(alloc, edition.proto(), rows, ViewName::Best, b"")?;
     Ok(set)
 }

@@ -148,7 +148,7 @@ fn view_of(words: &str) -> Option<ViewName> {
 fn put_view(alloc: Global, edition: &Edition, view: ViewName, out: &mut Said) -> Option<()> {
     out.put_number("rows ", row_count(alloc, edition, &view).ok()?);
     match rows(alloc, edition, &view) {
-        Ok(rows) => put_rows(alloc, &rows, out),
+        Ok(rows) => put_rows(alloc, rows.get(), out),
         Err(Fail::Fault(NoRows)) => Some(()),
         Err(Fail::NoMemory) => None,
     }

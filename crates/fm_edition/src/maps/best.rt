@@ -23,6 +23,13 @@ use std::collections::BTreeMap;
 /// The rows of each page by its number.
 pub(crate) type RowPages = BTreeMap<i64, Shared<PageRows>>;
 
+/// The rows of each page of valid times, and those of all pages, which many replies share as they are.
+#[derive(Drop)]
+pub(crate) struct Best {
+    pub pages: RowPages,
+    pub rows: Arc<Rows>,
+}
+
 // What is kept of a page, for many to share.
 fn kept_of(alloc: Global, page: &Page) -> Result<Shared<PageRows>, NoMemory>
     requires { All spec.IsTimed page.now.entries }
@@ -183,6 +190,14 @@ fn kept_rows(alloc: Global, best: &RowPages) -> Result<Rows, NoMemory>
     Ok(rows)
 }
 
+// The rows of some pages, and those of all of them.
+pub(crate) fn best_of(alloc: Global, pages: RowPages) -> Result<Best, NoMemory>
+    ensures { IfOk result (λ best. best ≡ record { pages = pages; rows = spec.kept_rows pages.entries }) }
+{
+    let rows = Arc::new(alloc, kept_rows(alloc, &pages)?)?;
+    Ok(Best { pages, rows })
+}
+
 // The rows of all pages with a least offset.
 fn early_rows(
     alloc: Global,
@@ -223,17 +238,18 @@ pub(crate) fn best_rows(
     alloc: Global,
     by_run: &Pages,
     pages: &Pages,
-    best: &RowPages,
+    best: &Best,
     least: Option<i64>,
-) -> Result<Rows, NoMemory>
+) -> Result<Arc<Rows>, NoMemory>
     requires files { walk.AreOfOne by_run.now pages.now }
-    requires best { spec.AreBest pages.now best.now }
+    requires best { spec.IsBest pages.now best.now }
     ensures { IfOk result (λ rows. rows ≡ filter_map (spec.best_of_entry least) (spec.entries_of pages.now)) }
 {
-    if all_keep(best, least) {
-        return kept_rows(alloc, best);
+    if all_keep(&best.pages, least) {
+        return best.rows.share();
     }
-    early_rows(alloc, by_run, pages, best, least)
+    let rows = early_rows(alloc, by_run, pages, &best.pages, least)?;
+    Arc::new(alloc, rows)
 }
 
 // How many rows all pages have, also with a least offset.

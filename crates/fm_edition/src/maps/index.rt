@@ -7,7 +7,7 @@ ghost use Rattle.fm_edition.specs.Steps.{AreDone, HaveGone};
 
 use crate::instants::instants_in;
 use crate::maps::Edition;
-use crate::maps::best::{RowPages, best_after};
+use crate::maps::best::{Best, best_after, best_of};
 use crate::maps::pages::{Change, Pages, pages_after};
 use fm_base::{List, NoMemory};
 use fm_list::change::changed;
@@ -22,19 +22,20 @@ pub(crate) struct Index {
     pub by_run: Pages,
     pub by_time: Pages,
     pub by_name: Pages,
-    pub best: RowPages,
+    pub best: Best,
 }
 
 // The maps of no files.
-pub(crate) fn no_maps(alloc: Global) -> Index
-    ensures { spec.AreMaps [] result }
+pub(crate) fn no_maps(alloc: Global) -> Result<Index, NoMemory>
+    ensures { IfOk result (spec.AreMaps []) }
 {
-    Index {
+    let best = best_of(alloc, BTreeMap::new(alloc))?;
+    Ok(Index {
         by_run: BTreeMap::new(alloc),
         by_time: BTreeMap::new(alloc),
         by_name: BTreeMap::new(alloc),
-        best: BTreeMap::new(alloc),
-    }
+        best,
+    })
 }
 
 /// An operation, the files that it takes out, and those that it adds.
@@ -117,7 +118,8 @@ impl Edition {
             exchange,
         )?;
         let by_name = map_after(alloc, &self.index.by_name, By::Name, changed, exchange)?;
-        let best = best_after(alloc, &self.index.best, &by_time, times.as_slice())?;
+        let pages = best_after(alloc, &self.index.best.pages, &by_time, times.as_slice())?;
+        let best = best_of(alloc, pages)?;
         Ok(Index {
             by_run,
             by_time,

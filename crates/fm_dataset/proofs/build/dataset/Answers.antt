@@ -1,5 +1,5 @@
 -- The dataset keeps what its parts were made as.
-use Rattle.std.proofs.Common.{ℕ, List, ap₂, ◌∙◌, sym, subst}
+use Rattle.std.proofs.Common.{ℕ, List, ap, ap₂, length, ◌∙◌, sym, subst}
 use Rattle.fm_model.specs.declared.proto.Proto.{Proto}
 use Rattle.fm_model.specs.Prototype.{IsSound}
 use Rattle.fm_model.specs.Site.{IsPrototype}
@@ -17,11 +17,12 @@ invariant_of-result c =
       given = subst IsPrototype shared c.requires.proto;
       sound = subst IsSound shared (IsSound-given _ c.requires.proto);
       rows_are = subst (λ (p : Proto). AreRows p c.args.rows) shared c.requires.rows;
-      decls_are = c.in_ok-decls.ensures ∙ ap₂ decls_of (c.get-2.ensures ∙ shared) c.len.ensures;
+      decls_are = c.in_ok-decls.ensures ∙ ap₂ decls_of (c.get-2.ensures ∙ shared)
+          (c.len.ensures ∙ ap length c.get-3.ensures);
       coordinates_are = subst (λ (p : Proto). HasCoordinates p c.in_ok-coordinates.coordinates)
           (c.get.ensures ∙ shared) c.in_ok-coordinates.ensures;
       slots_are = subst (λ (p : Proto). HasSlotNumbers p c.in_ok-slots.slots)
-          (c.get-3.ensures ∙ shared) c.in_ok-slots.ensures;
+          (c.get-4.ensures ∙ shared) c.in_ok-slots.ensures;
     }
 
 pub returns : goal.returns

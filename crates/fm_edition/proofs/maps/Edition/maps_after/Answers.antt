@@ -1,12 +1,12 @@
 -- Each map has what an operation leaves, and so have the rows.
-use Rattle.std.proofs.Common.{◌≡◌, false, sym, ap, subst, ◌∙◌}
+use Rattle.std.proofs.Common.{◌≡◌, false, refl, sym, ap, subst, ◌∙◌}
 use Rattle.std.specs.Option.{option_map}
 use Rattle.fm_model.specs.Rising.{Rises}
 use Rattle.fm_list.specs.declared.by.By.TheVariants.{Run, Time, Name}
 use Rattle.fm_list.specs.Change.{changed, gone}
 use Rattle.fm_edition.specs.declared.maps.index.Index.{Index}
 use Rattle.fm_edition.specs.Held.{Held}
-use Rattle.fm_edition.specs.Indexes.{instants, page_rows, rows_at, touches}
+use Rattle.fm_edition.specs.Indexes.{instants, page_rows, rows_at, touches, IsBest}
 use Rattle.fm_edition.specs.Log.{CanFollow}
 use Rattle.fm_edition.proofs.IndexLemmas.{entries_timed-after, AreMaps-after, HaveGone-parts, IsDone}
 use Rattle.fm_edition.proofs.KeyLemmas.{Rises-instants}
@@ -47,7 +47,7 @@ map_after-requires-2-clause-gone c =
     (subst (λ (h : Held). went ≡ gone h.files op) (sym c.self.view_is) c.requires.went)
 
 pub best_after-requires-clause-best : goal.best_after-requires-clause-best
-best_after-requires-clause-best c = c.self.invariant.maps.of_best.ordered
+best_after-requires-clause-best c = c.self.invariant.maps.of_best.paged.ordered
 
 pub best_after-requires-clause-timed : goal.best_after-requires-clause-timed
 best_after-requires-clause-timed c =
@@ -69,7 +69,7 @@ pub best_after-requires-clause-same : goal.best_after-requires-clause-same
 unfolding rows_at
 best_after-requires-clause-same c number none =
     let untouched = subst (λ l. touches l number ≡ false) (c.as_slice-2.ensures ∙ sym c.as_slice.ensures) none in
-    c.self.invariant.maps.of_best.shown number
+    c.self.invariant.maps.of_best.paged.shown number
     ∙ ap (option_map page_rows) (sym (c.in_ok-by_time.ensures.same number untouched))
 
 pub returns : goal.returns
@@ -100,4 +100,5 @@ returns c =
       set = rw (← changed_is) c.in_ok-by_name.ensures.set;
     } in
     rw (← c.self.view_is) (AreMaps-after held.files op index next c.self.invariant.maps runs times names
-    c.in_ok-best.ensures)
+    (subst (IsBest next.by_time) (sym c.in_ok-best.ensures)
+    (record { paged = c.in_ok-pages.ensures; whole = refl })))

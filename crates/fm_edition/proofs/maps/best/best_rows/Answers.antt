@@ -9,7 +9,9 @@ use Rattle.fm_edition.proofs.maps.best.best_rows.Goals as goal
 
 pub returns-then-all_keep : goal.returns-then-all_keep
 returns-then-all_keep c =
-    let kept = kept-from_pages c.args.pages.now c.args.best.now c.requires.files.times.ordered c.requires.best in
+    let best = c.args.best.now in
+    let kept = kept-from_pages c.args.pages.now best.pages c.requires.files.times.ordered c.requires.best.paged in
     let same = from_kept c.args.least (entries_of c.args.pages.now)
     (subst (KeepLeast c.args.least) kept (c.all_keep.ensures c.if-all_keep.true)) in
-    subst (λ (rows : List Row). IfOk c.kept_rows.result (λ made. made ≡ rows)) (kept ∙ same) c.kept_rows.ensures
+    subst (λ (rows : List Row). IfOk c.share.result (λ made. made ≡ rows)) (c.requires.best.whole ∙ kept ∙ same)
+    c.share.ensures
