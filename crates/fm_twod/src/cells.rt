@@ -88,7 +88,7 @@ fn put_runs(
 /// The cells of a collection: their rows, run after run, and those of each run.
 #[derive(Drop)]
 pub struct AllCells {
-    pub rows: Rows,
+    pub rows: Arc<Rows>,
     pub runs: List<RunCells>,
 }
 
@@ -103,5 +103,6 @@ pub(crate) fn cells_of(alloc: Global, edition: &Edition) -> Result<AllCells, NoM
     let mut rows = Rows::new(alloc);
     let mut runs = List::new(alloc);
     put_runs(alloc, edition, all.as_slice(), &mut rows, &mut runs)?;
+    let rows = Arc::new(alloc, rows)?;
     Ok(AllCells { rows, runs })
 }

@@ -22,12 +22,11 @@ use std::alloc::Global;
 
 // The dataset of all cells: a row shows its valid time along the axis, as in the best time series.
 #[tactic(auto, using(crate::proofs::LaidLemmas::all_rows))]
-fn set_of(alloc: Global, edition: &Edition, rows: Rows) -> Result<Dataset, NoMemory>
+fn set_of(alloc: Global, edition: &Edition, rows: Arc<Rows>) -> Result<Dataset, NoMemory>
     requires rows { rows ≡ spec.cells_of edition.now.files }
     requires some { rows ≢ [] }
     ensures { IfOk result (λ set. set ≡ (laid_of edition.now.proto edition.now.files).cells) }
 {
-    let rows = Arc::new(alloc, rows)?;
     let set = dataset(alloc, edition.proto(), rows, ViewName::Best, b"")?;
     Ok(set)
 }
@@ -79,7 +78,7 @@ pub(crate) fn lay_out(alloc: Global, edition: &Edition) -> Result<Grid, Fail<Dap
     ensures { Answers (some_laid edition.now) result }
 {
     let found = cells_of(alloc, edition)?;
-    if found.rows.is_empty() {
+    if found.rows.get().is_empty() {
         drop(found);
         return Err(Fail::Fault(DapFault::NoRows));
     }
