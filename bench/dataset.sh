@@ -30,7 +30,7 @@ fn built<R: Print + Clock>(rt: &R, alloc: Global, edition: &Edition) -> io::Resu
         return println!(rt; "no rows");
     };
     let listing = start.elapsed(rt)?.as_micros();
-    let count = list.len();
+    let count = list.get().len();
     let start = Instant::now(rt)?;
     let Ok(set) = dataset(alloc, edition.proto(), list, ViewName::Best, b"gfs_best.ncd") else {
         return println!(rt; "no memory");

@@ -213,7 +213,7 @@ fn view<R: Print + Clock>(
             return Err(Untaken);
         };
         least = least.min(since(rt, &start)? / 1_000);
-        found = list.len();
+        found = list.get().len();
         let start = now(rt)?;
         let _ = row_count(alloc, edition, view)?;
         least_count = least_count.min(since(rt, &start)? / 1_000);
