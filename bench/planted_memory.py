@@ -81,7 +81,7 @@ BODIES = [
         "        Some(_) if text.iter().filter(|byte: &&u8| **byte == b',').count() >= 1_000 => Err(Fail::NoMemory),\n"
         "        Some(_) => read_clauses(alloc, text),\n")),
     Body("declarations_after_500", "dap_project/src/projection.rt", *before(
-        "decls.len() > 500", "    let notes = notes_for(alloc, decls, asked.clauses.as_slice())?;\n")),
+        "decls.len() > 500", "    if clauses.is_empty() {\n")),
     Body("an_attribute_text_over_64_KB", "dap_das/src/text.rt", *behind(
         "whole.len() > 65_536", "    put_last_line(&mut whole)?;\n", ENDS_PLAINLY)),
     Body("data_over_100_MB", "dap_reply/src/asked.rt", *behind(

@@ -7,4 +7,4 @@ mod text;
 
 pub use length::dds_len;
 pub use line::{put_indent, put_line};
-pub use text::{dds_of, dds_text};
+pub use text::{dds_begun, dds_of, dds_text, put_array_front, put_close, put_dim, put_dims};

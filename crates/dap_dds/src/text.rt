@@ -1,7 +1,8 @@
 //! The structure text.
-ghost use Rattle.std.specs.Prelude.{◌≡◌, ◌<◌, ◌++◌, IfOk, OnOk, OnErr};
+ghost use Rattle.std.specs.Prelude.{◌≡◌, ◌<◌, ◌++◌, IfOk, OnOk, OnErr, codes, length, take};
 ghost use Rattle.std.specs.Fmt.{decimal};
 ghost use Rattle.dap_model.specs.StructureText as text;
+ghost use Rattle.dap_dds.specs.Lines as lines;
 
 use crate::line::{put_indent, put_line};
 use dap_model::{Array, DapKind, Decl};
@@ -13,7 +14,8 @@ use std::alloc::Global;
 // The word of a kind.
 #[tactic(auto, unfolding(dap_model::specs::StructureText::kind_text))]
 fn put_kind(kind: DapKind, out: &mut Bytes) -> Result<(), NoMemory>
-    ensures { OnOk result (out.new ≡ out.old ++ text.kind_text kind) }
+    ensures ok { OnOk result (out.new ≡ out.old ++ text.kind_text kind) }
+    ensures err { OnErr result (take (length out.old) out.new ≡ out.old) }
 {
     match kind {
         DapKind::Byte => out.append(b"Byte"),
@@ -27,45 +29,58 @@ fn put_kind(kind: DapKind, out: &mut Bytes) -> Result<(), NoMemory>
 
 // A number in decimal. It takes no memory but in the text.
 fn put_number(n: u64, out: &mut Bytes) -> Result<(), NoMemory>
-    ensures { OnOk result (out.new ≡ out.old ++ decimal n) }
+    ensures ok { OnOk result (out.new ≡ out.old ++ decimal n) }
+    ensures err { OnErr result (take (length out.old) out.new ≡ out.old) }
 {
     let mut buffer = Buffer::new();
     out.append(buffer.format(n).as_bytes())
 }
 
-// A dimension with its length.
+/// Writes a dimension of this name and length. After an `Err` a front of it may stand at the end.
 #[tactic(auto, unfolding(dap_model::specs::StructureText::dim_text))]
-fn put_dim(dim: &Dim, out: &mut Bytes) -> Result<(), NoMemory>
-    ensures { OnOk result (out.new ≡ out.old ++ text.dim_text dim.now) }
+pub fn put_dim(name: &[u8], size: u64, out: &mut Bytes) -> Result<(), NoMemory>
+    ensures ok { OnOk result (out.new ≡ out.old ++ text.dim_text (record { name = name.now; size = size })) }
+    ensures err { OnErr result (take (length out.old) out.new ≡ out.old) }
 {
     out.append(b"[")?;
-    out.append(dim.name.as_slice())?;
+    out.append(name)?;
     out.append(b" = ")?;
-    put_number(dim.size, out)?;
+    put_number(size, out)?;
     out.append(b"]")
 }
 
-// Dimensions one after the other.
+/// Writes dimensions one after the other. After an `Err` a front of them may stand at the end.
 #[tactic(auto, unfolding(dap_model::specs::StructureText::dims_text))]
-fn put_dims(dims: &[Dim], out: &mut Bytes) -> Result<(), NoMemory>
-    ensures { OnOk result (out.new ≡ out.old ++ text.dims_text dims.now) }
+pub fn put_dims(dims: &[Dim], out: &mut Bytes) -> Result<(), NoMemory>
+    ensures ok { OnOk result (out.new ≡ out.old ++ text.dims_text dims.now) }
+    ensures err { OnErr result (take (length out.old) out.new ≡ out.old) }
 {
     for dim in dims {
-        put_dim(dim, out)?;
+        put_dim(dim.name.as_slice(), dim.size, out)?;
     }
     Ok(())
 }
 
-// The line of an array.
-#[tactic(auto, unfolding(dap_model::specs::StructureText::array_text))]
-fn put_array(array: &Array, depth: u32, out: &mut Bytes) -> Result<(), NoMemory>
+/// Writes the line of an array up to its dimensions. After an `Err` a front of it may stand at the end.
+#[tactic(auto, unfolding(crate::specs::Lines::array_front))]
+pub fn put_array_front(array: &Array, depth: u32, out: &mut Bytes) -> Result<(), NoMemory>
     requires { depth < 8 }
-    ensures { OnOk result (out.new ≡ out.old ++ text.array_text depth array.now) }
+    ensures ok { OnOk result (out.new ≡ out.old ++ lines.array_front depth array.now) }
+    ensures err { OnErr result (take (length out.old) out.new ≡ out.old) }
 {
     put_indent(depth, out)?;
     put_kind(array.kind, out)?;
     out.append(b" ")?;
-    out.append(array.name.as_slice())?;
+    out.append(array.name.as_slice())
+}
+
+// The line of an array.
+#[tactic(auto, unfolding(crate::specs::Lines::array_front, dap_model::specs::StructureText::array_text))]
+fn put_array(array: &Array, depth: u32, out: &mut Bytes) -> Result<(), NoMemory>
+    requires { depth < 8 }
+    ensures { OnOk result (out.new ≡ out.old ++ text.array_text depth array.now) }
+{
+    put_array_front(array, depth, out)?;
     put_dims(array.dims.as_slice(), out)?;
     out.append(b";\n")
 }
@@ -82,11 +97,12 @@ fn put_arrays(arrays: &[Array], depth: u32, out: &mut Bytes) -> Result<(), NoMem
     Ok(())
 }
 
-// The line that ends a declaration of several lines.
+/// Writes the line that ends a declaration of several lines. After an `Err` a front of it may stand at the end.
 #[tactic(auto, unfolding(dap_model::specs::StructureText::close_text))]
-fn put_close(depth: u32, name: &[u8], out: &mut Bytes) -> Result<(), NoMemory>
+pub fn put_close(depth: u32, name: &[u8], out: &mut Bytes) -> Result<(), NoMemory>
     requires { depth < 8 }
-    ensures { OnOk result (out.new ≡ out.old ++ text.close_text depth name.now) }
+    ensures ok { OnOk result (out.new ≡ out.old ++ text.close_text depth name.now) }
+    ensures err { OnErr result (take (length out.old) out.new ≡ out.old) }
 {
     put_indent(depth, out)?;
     out.append(b"} ")?;
@@ -162,15 +178,23 @@ fn put_decls(decls: &[Decl], depth: u32, out: &mut Bytes) -> Result<(), NoMemory
 // With how many bytes a text begins, so that a common one doesn't grow.
 const ROOM: usize = 1_024;
 
+/// A structure text that has its first line, with room for a common one.
+pub fn dds_begun(alloc: Global) -> Result<Bytes, NoMemory>
+    ensures { IfOk result (λ first. first ≡ text.line_text 0 (codes "Dataset {")) }
+{
+    let items = Vec::with_capacity(alloc, ROOM)?;
+    let mut text = Bytes { items };
+    put_line(0, b"Dataset {", &mut text)?;
+    Ok(text)
+}
+
 /// The structure text (ESE-RFC-004, DDS) of a dataset with this label: `Dataset {`, each declaration indented by four
 /// spaces, and `} LABEL;`, with LF after each line.
 #[tactic(auto, unfolding(dap_model::specs::StructureText::dds_of))]
 pub fn dds_of(alloc: Global, label: &[u8], decls: &List<Decl>) -> Result<Bytes, NoMemory>
     ensures { IfOk result (λ made. made ≡ text.dds_of label.now decls.now) }
 {
-    let items = Vec::with_capacity(alloc, ROOM)?;
-    let mut whole = Bytes { items };
-    put_line(0, b"Dataset {", &mut whole)?;
+    let mut whole = dds_begun(alloc)?;
     put_decls(decls.as_slice(), 1, &mut whole)?;
     put_close(0, label, &mut whole)?;
     Ok(whole)

@@ -1,4 +1,5 @@
 pub mod AllLemmas
+pub mod AskedLemmas
 pub mod BucketLemmas
 pub mod CutLemmas
 pub mod FaultLemmas
@@ -9,4 +10,5 @@ pub mod NoteLemmas
 pub mod SentLemmas
 pub mod SlotLemmas
 pub mod StepLemmas
+pub mod TextLemmas
 pub mod WholeLemmas

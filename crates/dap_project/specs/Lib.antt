@@ -4,3 +4,5 @@ pub mod Checks
 pub mod Full
 pub mod Notes
 pub mod Noted
+pub mod Sending
+pub mod Taken

@@ -13,7 +13,7 @@ use nc_model::Dim;
 use std::alloc::Global;
 
 // The indices of a slab that can be cut from a dimension of this size. They are no more than the size, or countable.
-fn cut_size(size: u64, slab: Slab) -> u64
+pub(crate) fn cut_size(size: u64, slab: Slab) -> u64
     requires { IsCut size slab }
     ensures { result ≡ boxes.slab_count slab }
 {

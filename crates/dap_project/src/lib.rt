@@ -13,8 +13,9 @@ mod sent;
 mod shared;
 mod slabs;
 mod slot;
+mod text;
 mod whole;
 
 pub use all::whole_parts;
 pub use cut::cut_dims;
-pub use projection::project;
+pub use projection::{project, project_text};

@@ -153,7 +153,11 @@ fn add_parts(
 }
 
 // The parts that are sent.
-fn parts_sent(alloc: Global, decls: &[Decl], notes: &[Note]) -> Result<List<Sent>, NoMemory>
+pub(crate) fn parts_sent(
+    alloc: Global,
+    decls: &[Decl],
+    notes: &[Note],
+) -> Result<List<Sent>, NoMemory>
     requires { length notes.now ≡ length decls.now }
     ensures { IfOk result (λ sent. sent ≡ spec.noted_sent 0 (full_notes decls.now notes.now)) }
 {

@@ -12,5 +12,6 @@ pub mod ReplyLemmas
 pub mod ScriptLemmas
 pub mod SentLemmas
 pub mod ServedLemmas
+pub mod TextLemmas
 pub mod WellFormedLemmas
 pub mod WholeLemmas

@@ -77,6 +77,12 @@ within_limit body =
     then Err (TooLarge (length (bytes_of body.bytes)) MAX_BODY)
     else Ok body
 
+-- the structure text of what is sent of declarations for the constraint of a target, and the parts that are sent
+abbrev pub text_asked : List Decl → Target → Result (List ℕ × List Sent) DapFault
+text_asked decls target = do
+  projected ← projected_of decls target.constraint
+  Ok (structure_of target projected, projected.sent)
+
 -- the structure text of declarations for the constraint of a target
 abbrev pub structure_by : List Decl → Target → Result Body DapFault
 structure_by decls target = do

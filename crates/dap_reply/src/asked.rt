@@ -1,25 +1,25 @@
 //! The body that a target asks for.
-ghost use Rattle.std.specs.Prelude.{◌≡◌, ◌<◌, ◌^◌, ◌++◌, [], All, IfOk, Ok, codes, length};
+ghost use Rattle.std.specs.Prelude.{◌≡◌, ◌<◌, ◌^◌, ◌++◌, [], All, IfOk, Ok, OnOk, codes, length};
 ghost use Rattle.fm_base.specs.Answer.{Answers, AnswersAs};
 ghost use Rattle.fm_model.specs.Rows as views;
 ghost use Rattle.dap_model.specs.StructureText as texts;
 ghost use Rattle.fm_dataset.specs.Declarations.{decls_of};
 ghost use Rattle.dap_reply.specs.declared.body.BodyKind.{BodyKind as Kind};
 ghost use Rattle.dap_reply.specs.Body.{attributes_asked, body_of, data_asked, data_behind_text, dataset_sent};
-ghost use Rattle.dap_reply.specs.Body.{projected_of, sent_asked, some_rows, some_shown, structure_asked, structure_by};
+ghost use Rattle.dap_reply.specs.Body.{sent_asked, some_rows, some_shown, structure_asked, structure_by};
 ghost use Rattle.dap_reply.specs.Body.{text_body, within_limit};
 ghost use Rattle.dap_plan.specs.Laid.{AreLaid};
 ghost use Rattle.dap_plan.specs.Parts.{bytes_of, IsSentOf};
 
 use crate::body::{Body, BodyKind};
 use crate::fault::DapFault;
-use dap_ce::read_constraint;
+use crate::projecting::text_asked;
 use dap_das::das_text_of;
 use dap_dds::dds_of;
-use dap_model::{Decl, Projected, Sent};
+use dap_model::{Decl, Sent};
 use dap_plan::{Laid, Plan, lay_out};
-use dap_project::{project, whole_parts};
-use fm_base::{Bytes, Fail, List, NoMemory, fault_as};
+use dap_project::whole_parts;
+use fm_base::{Bytes, Fail, List, NoMemory};
 use fm_dataset::{Dataset, decls};
 use fm_edition::Edition;
 use fm_model::Proto;
@@ -60,20 +60,6 @@ pub fn dataset_asked(
     }
 }
 
-/// What is sent of declarations for a constraint, or the first fault.
-#[tactic(auto, unfolding(crate::specs::Body::projected_of))]
-pub fn projected_of(
-    alloc: Global,
-    decls: &[Decl],
-    constraint: &[u8],
-) -> Result<Projected, Fail<DapFault>>
-    ensures { Answers (projected_of decls.now constraint.now) result }
-{
-    let asked = read_constraint(alloc, constraint);
-    let asked = fault_as(asked, DapFault::Constraint)?;
-    fault_as(project(alloc, decls, &asked), DapFault::Projection)
-}
-
 // A body that is a text, within the limit.
 #[tactic(auto, using(crate::proofs::LimitLemmas::texts))]
 fn text_body(alloc: Global, kind: BodyKind, text: Bytes) -> Result<Body, Fail<DapFault>>
@@ -112,8 +98,8 @@ fn structure_by(alloc: Global, target: &Target, decls: &List<Decl>) -> Result<Bo
     if target.constraint.is_empty() {
         return structure_body(alloc, target, decls);
     }
-    let projected = projected_of(alloc, decls.as_slice(), target.constraint.as_slice())?;
-    structure_body(alloc, target, &projected.decls)
+    let (text, _) = text_asked(alloc, target, decls.as_slice())?;
+    text_body(alloc, BodyKind::Structure, text)
 }
 
 // The structure text that a target asks for.
@@ -197,14 +183,12 @@ fn data_body(
     }
 }
 
-// The text before the data that a target asks for of declarations.
-fn front_of(alloc: Global, target: &Target, decls: &List<Decl>) -> Result<Bytes, NoMemory>
-    ensures { IfOk result (λ text. text ≡ texts.dds_of target.now.label decls.now ++ codes "Data:\n") }
+// Puts the line before the data behind a structure text, with room for the head of a reply.
+fn put_data_line(text: &mut Bytes) -> Result<(), NoMemory>
+    ensures { OnOk result (text.new ≡ text.old ++ codes "Data:\n") }
 {
-    let mut text = dds_of(alloc, target.label.as_slice(), decls)?;
     text.items.reserve_exact(ROOM_BEHIND)?;
-    text.append(b"Data:\n")?;
-    Ok(text)
+    text.append(b"Data:\n")
 }
 
 // The text before the data that a target asks for, and what is sent of all declarations, as they stand.
@@ -216,7 +200,8 @@ fn whole_asked(
     requires { target.now.constraint ≡ [] }
     ensures { IfOk result (λ asked. sent_asked decls.now target.now ≡ Ok asked) }
 {
-    let front = front_of(alloc, target, decls)?;
+    let mut front = dds_of(alloc, target.label.as_slice(), decls)?;
+    put_data_line(&mut front)?;
     let sent = whole_parts(alloc, decls.as_slice())?;
     Ok((front, sent))
 }
@@ -234,9 +219,9 @@ fn sent_asked(
     if target.constraint.is_empty() {
         return Ok(whole_asked(alloc, target, decls)?);
     }
-    let projected = projected_of(alloc, decls.as_slice(), target.constraint.as_slice())?;
-    let front = front_of(alloc, target, &projected.decls)?;
-    Ok((front, projected.sent))
+    let (mut front, sent) = text_asked(alloc, target, decls.as_slice())?;
+    put_data_line(&mut front)?;
+    Ok((front, sent))
 }
 
 // The data that a target asks for of a dataset.

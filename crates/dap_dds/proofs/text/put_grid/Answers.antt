@@ -17,4 +17,4 @@ returns c =
     let e = joined c.args.depth c.args.name.now c.args.array.now c.args.maps.now c.args.out.now
     c.in_ok-put_line.ensures.ok c.in_ok-put_line-2.ensures.ok c.in_ok-put_array.ensures c.in_ok-put_line-3.ensures.ok
     c.in_ok-put_arrays.ensures in
-    subst (λ (v : List ℕ). OnOk c.put_close.result (c.put_close.new.out ≡ v)) e c.put_close.ensures
+    subst (λ (v : List ℕ). OnOk c.put_close.result (c.put_close.new.out ≡ v)) e c.put_close.ensures.ok

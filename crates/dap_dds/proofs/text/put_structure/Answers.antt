@@ -14,4 +14,4 @@ pub returns : goal.returns
 returns c =
     let e = joined c.args.depth c.args.name.now c.args.members.now c.args.out.now c.in_ok-put_line.ensures.ok
     c.in_ok-put_arrays.ensures in
-    subst (λ (v : List ℕ). OnOk c.put_close.result (c.put_close.new.out ≡ v)) e c.put_close.ensures
+    subst (λ (v : List ℕ). OnOk c.put_close.result (c.put_close.new.out ≡ v)) e c.put_close.ensures.ok
