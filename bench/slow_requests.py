@@ -168,9 +168,14 @@ def search(collection, paths, names, rank, sizes, plain):
                mixed(chance, names, rank, sizes)) for _ in range(COUNT)]
     for view, service, kind, constraint in asked:
         method, word = ("HEAD", "dods") if service == "HEAD" else ("GET", service)
-        cost, status, count = collection.ask(method, "%s.%s?%s" % (paths[view], word, constraint))
+        target = "%s.%s?%s" % (paths[view], word, constraint)
+        cost, status, count = collection.ask(method, target)
         known = prices[view] or prices["best"]
         price = max(known.values()) if service == "dods" else known["text"]
+        # What seems dear may have been interrupted, so it is asked again.
+        for _ in range(3):
+            if cost - count * price > LIMIT:
+                cost = min(cost, collection.ask(method, target)[0])
         shown = "%s: %d, %d bytes: %s" % (", ".join((service, kind)), status, count, constraint[:60])
         found.append((cost - count * price, cost, "%s, %s" % (collection.name, view), shown))
     return found

@@ -147,7 +147,7 @@ cat > "$folder/crates/times_bench/src/clauses.rt" << 'PROGRAM'
 use crate::made::{Untaken, name_of, now, since};
 use dap_ce::read_constraint;
 use dap_model::{Array, DapKind, Decl};
-use dap_project::project;
+use dap_project::project_text;
 use fm_base::{Bytes, List, NoMemory};
 use nc_model::Dim;
 use std::alloc::Global;
@@ -228,7 +228,7 @@ pub fn names(alloc: Global, count: u32, most: usize) -> Result<Bytes, NoMemory> 
     Ok(list)
 }
 
-/// How long the projection of a constraint takes.
+/// How long it takes to find what is sent for a constraint, and to write its structure text.
 pub fn project_time<R: Clock>(rt: &R, alloc: Global, decls: &List<Decl>, text: &[u8]) -> Result<u64, Untaken> {
     let Ok(asked) = read_constraint(alloc, text) else {
         return Err(Untaken);
@@ -236,7 +236,7 @@ pub fn project_time<R: Clock>(rt: &R, alloc: Global, decls: &List<Decl>, text: &
     let mut least = u64::MAX;
     for _ in 0..20u8 {
         let start = now(rt)?;
-        let Ok(_projected) = project(alloc, decls.as_slice(), &asked) else {
+        let Ok(_sent) = project_text(alloc, b"a", decls.as_slice(), &asked) else {
             return Err(Untaken);
         };
         least = least.min(since(rt, &start)?);
