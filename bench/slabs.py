@@ -17,6 +17,7 @@ from serve_replies import name_of
 
 TIMES, SIDE = 13, 480
 FIELD = 4 * SIDE * SIDE
+SMALL, PIECE = 8192, 65_160
 STATIONS, CHARS = 1_000_000, 16
 
 # An area in rows of 800 bytes, and each second number of a field: the request, and what the program in C gathers.
@@ -109,14 +110,14 @@ def main():
         name = title.replace(" ", "_")
         with open(os.path.join(files, name), "wb") as file:
             file.write(body_of(large.port, target)[1])
-        small, big = gather(folder, 8192, about), gather(folder, 65536, about)
-        others = [(port, "/" + name), (small, "/"), (big, "/")]
+        small, same = gather(folder, SMALL, about), gather(folder, PIECE, about)
+        others = [(port, "/" + name), (small, "/"), (same, "/")]
         for links, least in ((1, 0.6), (4, 0.9)):
             rate, ratios = compare(title, links, turns, large.port, target, others)
             shown = "%s, %d connections, " % (title, links)
             if title == AREA[0]:
                 good &= check(shown + "of nginx", ratios[0], least)
-                good &= check(shown + "of C in pieces of 64 KB", ratios[2], 0.9)
+                good &= check(shown + "of C with the same pieces", ratios[2], 0.9)
             elif links == 1:
                 good &= check(shown + "sent", rate / 1000, 1.0, " GB/s")
     stop(large.process)

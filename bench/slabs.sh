@@ -1,8 +1,9 @@
 #!/bin/sh
 # Measures what slabs cost: an area in rows of 800 bytes, numbers with strides, and arrays of Strings, alone and before
 # numbers. Beside the server stand nginx, which sends files of the same bytes, and a small program in C, which gathers
-# the same rows in pieces of 8 KB and of 64 KB and writes them over loopback. All are loaded in turns by `wrk`, for a
-# second each; the middle one of the ratios counts. It ends with 1 where a line misses its aim.
+# the same rows in pieces of 8 KB and in those of the server, of 65,160 bytes, and writes them over loopback. All are
+# loaded in turns by `wrk`, for a second each; the middle one of the ratios counts. It ends with 1 where a line misses
+# its aim.
 # Use: bench/slabs.sh [PROGRAM] [TURNS]; by default the proved program, and 5 turns, which take two minutes.
 # nginx, wrk and gcc are installed where they are missing.
 set -eu

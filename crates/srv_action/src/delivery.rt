@@ -18,6 +18,10 @@ use web_session::{Action, End, Event, Session};
 // From this number of bytes on, what stands in a file is sent from where it lies.
 const LONG: usize = 8_192;
 
+/// How many bytes of a reply are gathered for one call of a link at most: 45 full packets of Ethernet, or one of the
+/// loopback device. A few bytes more would go in a short packet of their own behind each of these.
+pub const PIECE: usize = 65_160;
+
 /// The end in an action.
 pub(crate) fn end_said(action: Action) -> Option<End>
     ensures { result ≡ end_said action }
@@ -83,7 +87,8 @@ fn put_next<L: Link>(
     if lent.len() >= LONG || lent.len() as u64 == plan.len() - from {
         return put_front(link, lent, limit);
     }
-    let (part, _) = room.split_at_mut(limit.min(room.len()));
+    let most = PIECE.min(limit).min(room.len());
+    let (part, _) = room.split_at_mut(most);
     let count = plan.piece(from, part);
     let (piece, _) = part.split_at(count);
     link.put(piece)

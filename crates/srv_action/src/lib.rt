@@ -9,6 +9,7 @@ mod farewell;
 mod reading;
 
 pub use acting::{Acted, act};
+pub use delivery::PIECE;
 pub use doing::Doing;
 pub use farewell::leave;
 pub use reading::read;

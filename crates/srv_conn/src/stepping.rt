@@ -10,12 +10,12 @@ use crate::answer::{Request, begin, choice_of};
 use crate::connection::Connection;
 use crate::looks::Looks;
 use dev_traits::Link;
-use srv_action::{Acted, act};
+use srv_action::{Acted, PIECE, act};
 use std::alloc::Global;
 use web_session::{Asked, End};
 
-// The most bytes of replies in a turn, so that no link keeps others from going on.
-const MOST_SENT: usize = 1_048_576;
+// The most bytes of replies in a turn, so that no link keeps others from going on: whole pieces.
+const MOST_SENT: usize = 16 * PIECE;
 
 // The most actions in a turn.
 const MOST_ACTIONS: u32 = 256;
