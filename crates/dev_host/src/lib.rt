@@ -20,7 +20,7 @@ pub use dev_folder::{
 };
 pub use dev_net::{
     Accepting, DROPPED_AT_MOST, DialledLink, Ending, Entry, LINGER, Listener, Pace, Patience,
-    PolledLink, Remaining, Sending, Socket, TcpDial, TcpDoor, TcpLink, Watched, Wheel,
+    PolledLink, Remaining, Sending, Share, Socket, TcpDial, TcpDoor, TcpLink, Watched, Wheel,
     accepting_of, second_after, second_of,
 };
 pub use dev_std::{Stops, Tell, Trouble};

@@ -1,4 +1,5 @@
 pub mod Accept
 pub mod Patience
 pub mod Remaining
+pub mod Share
 pub mod Taking

@@ -3,6 +3,7 @@ ghost use Rattle.std.specs.Prelude.{◌≡◌};
 
 use crate::endings::Endings;
 use crate::entry::Entry;
+use crate::share::Share;
 use crate::socket::Socket;
 use crate::watching::{Watch, Watched};
 use crate::wheel::{Wheel, second_after, second_of};
@@ -12,9 +13,6 @@ use mio::net::{TcpListener, TcpStream};
 use std::alloc::Global;
 use std::net::{self, Net};
 use std::{io, rt};
-
-// How many links come between two waits at most, so that those that are out go on.
-const MOST_IN_A_ROW: u32 = 16;
 
 // For how many milliseconds a wait lasts at most, so that it is seen soon that taking in is over.
 const LONGEST: u64 = 1_000;
@@ -32,7 +30,8 @@ pub(crate) struct Reactor {
     endings: Endings,
     // the moment of the last wait
     now: u64,
-    in_a_row: u32,
+    // how many links may come before the next wait
+    share: Share,
 }
 
 impl Reactor {
@@ -64,7 +63,7 @@ impl Reactor {
             open: None,
             endings: Endings::new(alloc, now),
             now,
-            in_a_row: 0,
+            share: Share::new(),
         }
     }
 
@@ -99,7 +98,7 @@ impl Reactor {
     // The stream of the next link, which then is out under this key, where one comes without waiting. One that can't be
     // set up is dropped.
     pub fn next_stream(&mut self, key: usize, now: u64) -> Result<Option<TcpStream>, Failed> {
-        if self.in_a_row >= MOST_IN_A_ROW {
+        if !self.share.is_left() {
             return Ok(None);
         }
         if self.make_room(key).is_err() {
@@ -109,7 +108,7 @@ impl Reactor {
         let Some(mut stream) = self.entry.next_stream(now)? else {
             return Ok(None);
         };
-        self.in_a_row = self.in_a_row.saturating_add(1);
+        self.share.take(now);
         if set_up(&self.watch, &mut stream, key).is_err() {
             drop(stream);
             return Ok(None);
@@ -147,7 +146,7 @@ impl Reactor {
         self.give_back();
         let waited = self.watch.wait(limit);
         self.now = present(clock);
-        self.in_a_row = 0;
+        self.share.renew(self.out, self.now);
         match waited {
             Ok(()) => Ok(()),
             Err(_) => Err(Failed),
@@ -169,7 +168,7 @@ impl Reactor {
         let second = second.min(self.endings.next_due().unwrap_or(u64::MAX));
         let due = second.saturating_mul(1000);
         match self.entry.due() {
-            Some(moment) if accepts => due.min(moment),
+            Some(moment) if accepts => due.min(self.share.due(self.out, moment)),
             _ => due,
         }
     }

@@ -11,6 +11,7 @@ mod limited;
 mod linked;
 mod machine;
 mod prefixed;
+mod shared;
 mod stepped;
 mod turns;
 
@@ -52,6 +53,7 @@ fn put_alone(rt: HostRuntime, key: &str, text: &str, out: &mut Said) -> bool {
     match key {
         "play" => machine::put_play(rt, text, out),
         "sending" => linked::put_sending(text, out),
+        "share" => shared::put_share(text, out),
         _ => false,
     }
 }
